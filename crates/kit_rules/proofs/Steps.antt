@@ -1,0 +1,47 @@
+-- What steps leave of a state.
+use Rattle.std.proofs.Common.{◌≡◌, ℕ, suc, true, false, cond, ◌&&◌, ◌+◌, ◌<◌, ◌≤◌, List, [], ◌∷◌, length, drop, get_or, arith, drop-cons, length-append}
+use Rattle.kit_rules.specs.declared.table.Action.{Action}
+use Rattle.kit_rules.specs.declared.table.Trigger.{Trigger}
+use Rattle.kit_rules.specs.declared.table.Rule.{Rule}
+use Rattle.kit_rules.specs.declared.scene.Scene.{Scene}
+use Rattle.kit_rules.specs.declared.scene.State.{State}
+use Rattle.std.specs.Option.{option_to_list}
+use Rattle.kit_rules.specs.Step.{message_of, after_action, after_actions, after_rule, after_rules, same_trigger, conditions_hold}
+
+-- the next number does not fall
+pub next_grows : (scene : Scene) (s : State) (as' : List Action) → s.next ≤ (after_actions scene s as').next
+next_grows scene s [] = omega arith
+next_grows scene s (a ∷ as') = omega (arith, next_grows scene (after_action scene s a) as')
+
+-- where the action at a place goes past a number, so do all from there on
+pub past_from_here : (scene : Scene) (s : State) (as' : List Action) (i n : ℕ) (d : Action) → i < length as' → n < (after_action scene s (get_or as' i d)).next → n < (after_actions scene s (drop i as')).next
+past_from_here scene s as' i n d h past =
+    rw (drop-cons as' i d h) (omega (arith, past, next_grows scene (after_action scene s (get_or as' i d)) (drop (suc i) as')))
+
+pub next_grows_by_rule : (scene : Scene) (on : Trigger) (s : State) (r : Rule) → s.next ≤ (after_rule scene on s r).next
+next_grows_by_rule scene on s r =
+    elim (same_trigger r.on on && conditions_hold scene s.vars r.conds) as (λ b. s.next ≤ (cond b (after_actions scene s r.actions) s).next)
+    [ true ↦ next_grows scene s r.actions | false ↦ omega arith ]
+
+pub next_grows_by_rules : (scene : Scene) (on : Trigger) (s : State) (rs : List Rule) → s.next ≤ (after_rules scene on s rs).next
+next_grows_by_rules scene on s [] = omega arith
+next_grows_by_rules scene on s (r ∷ rs) = omega (arith, next_grows_by_rule scene on s r, next_grows_by_rules scene on (after_rule scene on s r) rs)
+
+pub past_from_rule : (scene : Scene) (on : Trigger) (s : State) (rs : List Rule) (i n : ℕ) (r : Rule) → i < length rs → r ≡ get_or rs i r → n < (after_rule scene on s r).next → n < (after_rules scene on s (drop i rs)).next
+past_from_rule scene on s rs i n r h is past =
+    rw (drop-cons rs i r h, ← is) (omega (arith, past, next_grows_by_rules scene on (after_rule scene on s r) (drop (suc i) rs)))
+
+-- the next number stays one above the number of sends
+pub counted_by_actions : (scene : Scene) (s : State) (as' : List Action) → s.next ≡ length s.sends + 1 → (after_actions scene s as').next ≡ length (after_actions scene s as').sends + 1
+counted_by_actions scene s [] h = h
+counted_by_actions scene s (a ∷ as') h =
+    counted_by_actions scene (after_action scene s a) as' (omega (arith, h, length-append s.sends (option_to_list (message_of scene s a))))
+
+pub counted_by_rule : (scene : Scene) (on : Trigger) (s : State) (r : Rule) → s.next ≡ length s.sends + 1 → (after_rule scene on s r).next ≡ length (after_rule scene on s r).sends + 1
+counted_by_rule scene on s r h =
+    elim (same_trigger r.on on && conditions_hold scene s.vars r.conds) as (λ b. (cond b (after_actions scene s r.actions) s).next ≡ length (cond b (after_actions scene s r.actions) s).sends + 1)
+    [ true ↦ counted_by_actions scene s r.actions h | false ↦ h ]
+
+pub counted_by_rules : (scene : Scene) (on : Trigger) (s : State) (rs : List Rule) → s.next ≡ length s.sends + 1 → (after_rules scene on s rs).next ≡ length (after_rules scene on s rs).sends + 1
+counted_by_rules scene on s [] h = h
+counted_by_rules scene on s (r ∷ rs) h = counted_by_rules scene on (after_rule scene on s r) rs (counted_by_rule scene on s r h)

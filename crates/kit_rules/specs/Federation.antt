@@ -1,0 +1,97 @@
+-- When the parts make a federation.
+use Rattle.std.specs.Prelude.{◌≡◌, ◌≢◌, ◌⊎◌, ℕ, ◌<◌, ◌≤◌, ◌^◌, List, length, Option, Some, None, IfSome, All, AllPairs}
+use Rattle.kit_rules.specs.declared.table.Wish.{Wish}
+use Rattle.kit_rules.specs.declared.table.Wish.TheVariants as wish
+use Rattle.kit_rules.specs.declared.table.Operand.{Operand}
+use Rattle.kit_rules.specs.declared.table.Operand.TheVariants as operand
+use Rattle.kit_rules.specs.declared.table.Cond.{Cond}
+use Rattle.kit_rules.specs.declared.table.Trigger.{Trigger}
+use Rattle.kit_rules.specs.declared.table.Trigger.TheVariants as trigger
+use Rattle.kit_rules.specs.declared.table.Action.{Action}
+use Rattle.kit_rules.specs.declared.table.Action.TheVariants as action
+use Rattle.kit_rules.specs.declared.table.Rule.{Rule}
+use Rattle.kit_rules.specs.declared.table.Var.{Var}
+use Rattle.kit_rules.specs.declared.table.Group.{Group}
+use Rattle.kit_rules.specs.declared.table.Federate.{Federate}
+use Rattle.kit_rules.specs.Parts.{Parts}
+
+-- a letter, a digit, _ or -
+abbrev pub IsNameByte : ℕ → Type 0
+IsNameByte b = ((97 ≤ b) × (b ≤ 122)) ⊎ ((65 ≤ b) × (b ≤ 90)) ⊎ ((48 ≤ b) × (b ≤ 57)) ⊎ (b ≡ 95) ⊎ (b ≡ 45)
+
+pub record IsName (name : List ℕ) : Type 0 where
+  pub some : 1 ≤ length name
+  pub short : length name ≤ 16
+  pub bytes : All IsNameByte name
+
+abbrev pub IsStep : ℕ → Type 0
+IsStep n = (1 ≤ n) × (n ≤ 100000)
+
+abbrev pub IsWish : Wish → Type 0
+IsWish (wish.Tar step) = IsStep step
+IsWish (wish.Ner step) = IsStep step
+
+-- a number, a variable of the federate, the time or the value
+abbrev pub IsOperand : ℕ → Operand → Type 0
+IsOperand vars (operand.Num n) = Unit {0}
+IsOperand vars (operand.Var v) = v < vars
+IsOperand vars operand.Now = Unit {0}
+IsOperand vars operand.Value = Unit {0}
+
+abbrev pub IsTrigger : ℕ → Trigger → Type 0
+IsTrigger groups trigger.Start = Unit {0}
+IsTrigger groups trigger.Grant = Unit {0}
+IsTrigger groups (trigger.Got group) = group < groups
+
+abbrev pub IsCond : ℕ → Cond → Type 0
+IsCond vars c = IsOperand vars c.left × IsOperand vars c.right
+
+-- an action of a federate with so many variables and this lookahead, where there are so many groups
+abbrev pub IsAction : ℕ → ℕ → ℕ → Action → Type 0
+IsAction groups vars lookahead (action.Set v to) = (v < vars) × IsOperand vars to
+IsAction groups vars lookahead (action.Add v by) = (v < vars) × IsOperand vars by
+IsAction groups vars lookahead (action.Sub v by) = (v < vars) × IsOperand vars by
+IsAction groups vars lookahead (action.Send group delay value keep) = (group < groups) × (lookahead ≤ delay) × (delay ≤ 100000) × IsOperand vars value × IfSome keep (λ v. v < vars)
+IsAction groups vars lookahead (action.Retract v) = v < vars
+IsAction groups vars lookahead (action.Tar step) = IsStep step
+IsAction groups vars lookahead (action.Ner step) = IsStep step
+
+pub record IsRule (groups vars lookahead : ℕ) (r : Rule) : Type 0 where
+  pub on : IsTrigger groups r.on
+  pub few_conds : length r.conds ≤ 8
+  pub conds : All (IsCond vars) r.conds
+  pub few_actions : length r.actions ≤ 16
+  pub actions : All (IsAction groups vars lookahead) r.actions
+
+pub record AreVars (vars : List Var) : Type 0 where
+  pub few : length vars ≤ 8
+  pub names : All (λ (v : Var). IsName v.name) vars
+  pub differ : AllPairs (λ (a b : Var). a.name ≢ b.name) vars
+
+pub record IsFederate (groups : ℕ) (f : Federate) : Type 0 where
+  pub name : IsName f.name
+  pub lookahead : IsStep f.lookahead
+  pub advance : IsWish f.advance
+  pub vars : AreVars f.vars
+  pub few_rules : length f.rules ≤ 64
+  pub rules : All (IsRule groups (length f.vars) f.lookahead) f.rules
+
+pub record IsGroup (federates : ℕ) (g : Group) : Type 0 where
+  pub name : IsName g.name
+  pub members : g.members < 2 ^ federates
+
+pub record AreGroups (federates : ℕ) (groups : List Group) : Type 0 where
+  pub few : length groups ≤ 32
+  pub each : All (IsGroup federates) groups
+  pub differ : AllPairs (λ (a b : Group). a.name ≢ b.name) groups
+
+pub record AreFederates (groups : ℕ) (federates : List Federate) : Type 0 where
+  pub count : (1 ≤ length federates) × (length federates ≤ 16)
+  pub each : All (IsFederate groups) federates
+  pub differ : AllPairs (λ (a b : Federate). a.name ≢ b.name) federates
+
+pub record IsFederation (p : Parts) : Type 0 where
+  pub end : IsStep p.end
+  pub buffers : (1 ≤ p.buffers) × (p.buffers ≤ 64)
+  pub groups : AreGroups (length p.federates) p.groups
+  pub federates : AreFederates (length p.groups) p.federates

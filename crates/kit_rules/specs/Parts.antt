@@ -1,0 +1,24 @@
+-- What a federation is made of.
+use Rattle.std.specs.Prelude.{ℕ, List, [], slice_index_or}
+use Rattle.kit_rules.specs.declared.table.Wish.TheVariants.{Tar}
+use Rattle.kit_rules.specs.declared.table.Group.{Group}
+use Rattle.kit_rules.specs.declared.table.Federate.{Federate}
+
+pub record Parts : Type 0 where
+  pub end : ℕ
+  pub buffers : ℕ
+  pub groups : List Group
+  pub federates : List Federate
+
+-- what stands for a federate past the last
+abbrev pub nobody : Federate
+nobody = record { name = []; lookahead = 0; advance = Tar 0; vars = []; rules = [] }
+
+abbrev pub federate_at : Parts → ℕ → Federate
+federate_at p i = slice_index_or p.federates i nobody
+
+abbrev pub no_group : Group
+no_group = record { name = []; members = 0 }
+
+abbrev pub group_at : Parts → ℕ → Group
+group_at p g = slice_index_or p.groups g no_group

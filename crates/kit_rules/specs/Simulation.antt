@@ -1,0 +1,150 @@
+-- The sequential simulation.
+use Rattle.std.specs.Prelude.{ℕ, zero, suc, ◌+◌, ◌*◌, ◌==◌, nat_lt, min, Bool, ◌&&◌, ◌||◌, if◌then◌else◌, List, [], ◌∷◌, ◌++◌, length, map, drop, slice_index_or, slice_set, Option, Some, None, find}
+use Rattle.std.specs.Option.{option_map}
+use Rattle.std.specs.List.{range_with_len, flat_map}
+use Rattle.kit_base.specs.declared.message.Message.{Message}
+use Rattle.kit_base.specs.declared.history.Line.{Line}
+use Rattle.kit_base.specs.declared.history.Line.TheVariants as line
+use Rattle.kit_rules.specs.declared.table.Wish.{Wish}
+use Rattle.kit_rules.specs.declared.table.Wish.TheVariants as wish
+use Rattle.kit_rules.specs.declared.table.Trigger.TheVariants as trigger
+use Rattle.kit_rules.specs.declared.table.Request.{Request}
+use Rattle.kit_rules.specs.declared.table.Request.TheVariants as request
+use Rattle.kit_rules.specs.Parts.{Parts, federate_at}
+use Rattle.kit_rules.specs.declared.scene.State.{State}
+use Rattle.kit_rules.specs.Step.{stepped, opening_state}
+use Rattle.kit_rules.specs.Delivery.{pending, due_messages, due_time}
+
+-- a federate in the simulation: its time, its request, its state, and what was delivered to it
+pub record Seat : Type 0 where
+  pub now : ℕ
+  pub request : Request
+  pub state : State
+  pub got : List Message
+
+-- one grant: what was delivered with it, in order
+pub record Block : Type 0 where
+  pub time : ℕ
+  pub federate : ℕ
+  pub delivered : List Message
+
+-- all federates, all messages sent so far in the order of sending, and the grants so far
+pub record World : Type 0 where
+  pub seats : List Seat
+  pub messages : List Message
+  pub blocks : List Block
+
+abbrev pub world : List Seat → List Message → List Block → World
+world seats messages blocks = record { seats = seats; messages = messages; blocks = blocks }
+
+-- the request that is made at a time
+abbrev pub request_at : Wish → ℕ → ℕ → Request
+request_at (wish.Tar step) now end = request.Tar (min (now + step) end)
+request_at (wish.Ner step) now end = request.Ner (min (now + step) end)
+
+-- a federate whose start's rules have run, and that has made its first request
+abbrev pub started_seat : Parts → ℕ → Seat
+started_seat p i =
+    let s = stepped p i trigger.Start 0 0 (opening_state (federate_at p i)) in
+    record { now = 0; request = request_at s.wish 0 p.end; state = s; got = [] }
+
+-- the start's rules of all federates have run, in the order of the federates
+abbrev pub started : Parts → World
+started p =
+    let seats = map (started_seat p) (range_with_len 0 (length p.federates)) in
+    record { seats = seats; messages = flat_map (λ (s : Seat). s.state.sends) seats; blocks = [] }
+
+abbrev pub seat_due : Parts → List Message → ℕ → Seat → ℕ
+seat_due p sent i s = due_time s.request (pending p i s.got sent)
+
+-- due time and number of each federate below the end
+abbrev pub waiting_from : Parts → List Message → ℕ → List Seat → List (ℕ × ℕ)
+waiting_from p sent i [] = []
+waiting_from p sent i (s ∷ ss) = if nat_lt s.now p.end then (seat_due p sent i s, i) ∷ waiting_from p sent (i + 1) ss else waiting_from p sent (i + 1) ss
+
+abbrev pub is_sooner : ℕ × ℕ → ℕ × ℕ → Bool
+is_sooner a b = nat_lt a.0 b.0 || (a.0 == b.0 && nat_lt a.1 b.1)
+
+abbrev pub sooner : Option (ℕ × ℕ) → ℕ × ℕ → ℕ × ℕ
+sooner None b = b
+sooner (Some a) b = if is_sooner b a then b else a
+
+abbrev pub least : Option (ℕ × ℕ) → List (ℕ × ℕ) → Option (ℕ × ℕ)
+least best [] = best
+least best (x ∷ xs) = least (Some (sooner best x)) xs
+
+-- the least pair of a due time and a federate below the end
+abbrev pub next_grant : Parts → World → Option (ℕ × ℕ)
+next_grant p w = least None (waiting_from p w.messages 0 w.seats)
+
+-- the rules of the deliveries, in order
+abbrev pub after_deliveries : Parts → ℕ → ℕ → State → List Message → State
+after_deliveries p i d s [] = s
+after_deliveries p i d s (m ∷ ms) = after_deliveries p i d (stepped p i (trigger.Got m.group) d m.value s) ms
+
+-- and then those of the grant
+abbrev pub after_block : Parts → ℕ → ℕ → State → List Message → State
+after_block p i d s due = stepped p i trigger.Grant d 0 (after_deliveries p i d s due)
+
+-- federate i after a grant of d
+abbrev pub granted_seat : Parts → ℕ → ℕ → List Message → Seat → Seat
+granted_seat p i d sent s =
+    let due = due_messages p i d s.got sent in
+    let after = after_block p i d s.state due in
+    record { now = d; request = if nat_lt d p.end then request_at after.wish d p.end else s.request; state = after; got = s.got ++ due }
+
+-- the lines of a grant: its deliveries, and then itself
+abbrev pub block_lines : Block → List Line
+block_lines b = map (line.Deliver b.time b.federate) b.delivered ++ line.Grant b.time b.federate ∷ []
+
+abbrev pub lines_of : List Block → List Line
+lines_of blocks = flat_map block_lines blocks
+
+-- the grant of d to federate i, with these messages
+abbrev pub block : ℕ → ℕ → List Message → Block
+block i d due = record { time = d; federate = i; delivered = due }
+
+abbrev pub nobody_seated : Seat
+nobody_seated = record { now = 0; request = request.Tar 0; state = record { vars = []; wish = wish.Tar 0; next = 1; sends = [] }; got = [] }
+
+abbrev pub seat_at : World → ℕ → Seat
+seat_at w i = slice_index_or w.seats i nobody_seated
+
+-- the federate of a pair after its grant
+abbrev pub granted_at : Parts → World → ℕ × ℕ → Seat
+granted_at p w g = granted_seat p g.1 g.0 w.messages (seat_at w g.1)
+
+-- the world after the grant of the pair's time to its federate
+abbrev pub granted : Parts → World → ℕ × ℕ → World
+granted p w g =
+    let old = seat_at w g.1 in
+    let new = granted_at p w g in
+    record { seats = slice_set w.seats g.1 new; messages = w.messages ++ drop (length old.state.sends) new.state.sends; blocks = w.blocks ++ block g.1 g.0 (due_messages p g.1 g.0 old.got w.messages) ∷ [] }
+
+abbrev pub granted_or_same : Parts → World → Option (ℕ × ℕ) → World
+granted_or_same p w None = w
+granted_or_same p w (Some g) = granted p w g
+
+-- one grant, while a federate stands below the end
+abbrev pub advanced : Parts → World → World
+advanced p w = granted_or_same p w (next_grant p w)
+
+abbrev pub after_grants : Parts → ℕ → World → World
+after_grants p zero w = w
+after_grants p (suc n) w = after_grants p n (advanced p w)
+
+-- as many grants as there can be
+abbrev pub simulated : Parts → World
+simulated p = after_grants p (length p.federates * p.end) (started p)
+
+-- the closing variables of each federate
+abbrev pub closing_vars : World → List (List ℕ)
+closing_vars w = map (λ (s : Seat). s.state.vars) w.seats
+
+-- a message that takes number 16,385
+abbrev pub is_spent : Message → Bool
+is_spent m = m.number == 16385
+
+-- the federate that takes number 16,385, the first to do so
+abbrev pub spender : Parts → Option ℕ
+spender p = option_map (λ (m : Message). m.sender) (find is_spent (simulated p).messages)

@@ -1,0 +1,23 @@
+//! Federations, the rule step, and the definitions of the sequential simulation and its text.
+#![tactic(auto)]
+
+mod act;
+mod delivery;
+mod fed_state;
+mod federation;
+mod limits;
+mod name;
+mod running;
+mod scene;
+mod table;
+
+pub use delivery::{is_member, receivers, transported};
+pub use fed_state::FedState;
+pub use federation::Federation;
+pub use limits::{Named, obeys};
+pub use name::Name;
+pub use running::apply;
+pub use scene::{ApplyEnd, Scene, State};
+pub use table::{
+    Action, Compare, Cond, Federate, Group, Operand, Request, Rule, Trigger, Var, Wish,
+};

@@ -1,0 +1,228 @@
+ghost use Rattle.std.specs.Prelude.{◌≡◌, ◌≢◌, ◌↔◌, ◌<◌, ◌≤◌, ◌^◌, List, ℕ, IsTrue, IfSome, All, AllPairs, length};
+ghost use Rattle.kit_rules.specs.Federation.{IsFederation, IsNameByte, IsName, IsStep, IsWish, IsOperand, IsTrigger, IsCond, IsAction, IsRule, IsFederate, IsGroup, AreVars, AreGroups, AreFederates};
+
+use crate::{Action, Cond, Federate, Group, Name, Operand, Rule, Trigger, Var, Wish};
+
+fn is_name_byte(b: u8) -> bool
+    ensures { IsTrue result ↔ IsNameByte b }
+{
+    b.is_ascii_lowercase() || b.is_ascii_uppercase() || b.is_ascii_digit() || b == b'_' || b == b'-'
+}
+
+fn is_name(name: &Name) -> bool
+    ensures { IsTrue result ↔ IsName name.now }
+{
+    let bytes = name.bytes();
+    !bytes.is_empty() && bytes.len() <= 16 && bytes.iter().all(|b| is_name_byte(*b))
+}
+
+fn is_step(step: u64) -> bool
+    ensures { IsTrue result ↔ IsStep step }
+{
+    1 <= step && step <= 100_000
+}
+
+fn is_wish(wish: Wish) -> bool
+    ensures { IsTrue result ↔ IsWish wish }
+{
+    match wish {
+        Wish::Tar(step) => is_step(step as u64),
+        Wish::Ner(step) => is_step(step as u64),
+    }
+}
+
+fn is_operand(vars: usize, operand: Operand) -> bool
+    ensures { IsTrue result ↔ IsOperand vars operand }
+{
+    match operand {
+        Operand::Var(v) => (v as usize) < vars,
+        Operand::Num(_) | Operand::Now | Operand::Value => true,
+    }
+}
+
+fn is_trigger(groups: usize, on: Trigger) -> bool
+    ensures { IsTrue result ↔ IsTrigger groups on }
+{
+    match on {
+        Trigger::Start | Trigger::Grant => true,
+        Trigger::Got { group } => (group as usize) < groups,
+    }
+}
+
+fn is_cond(vars: usize, cond: Cond) -> bool
+    ensures { IsTrue result ↔ IsCond vars cond }
+{
+    is_operand(vars, cond.left) && is_operand(vars, cond.right)
+}
+
+fn is_kept(vars: usize, keep: Option<u8>) -> bool
+    ensures { IsTrue result ↔ IfSome keep (λ v. v < vars) }
+{
+    match keep {
+        None => true,
+        Some(v) => (v as usize) < vars,
+    }
+}
+
+fn is_action(groups: usize, vars: usize, lookahead: u32, action: Action) -> bool
+    ensures { IsTrue result ↔ IsAction groups vars lookahead action }
+{
+    match action {
+        Action::Set { var, to } => (var as usize) < vars && is_operand(vars, to),
+        Action::Add { var, by } => (var as usize) < vars && is_operand(vars, by),
+        Action::Sub { var, by } => (var as usize) < vars && is_operand(vars, by),
+        Action::Send {
+            group,
+            delay,
+            value,
+            keep,
+        } => {
+            (group as usize) < groups
+                && lookahead <= delay
+                && delay <= 100_000
+                && is_operand(vars, value)
+                && is_kept(vars, keep)
+        }
+        Action::Retract { var } => (var as usize) < vars,
+        Action::Tar { step } => is_step(step as u64),
+        Action::Ner { step } => is_step(step as u64),
+    }
+}
+
+fn is_rule(groups: usize, vars: usize, lookahead: u32, rule: &Rule) -> bool
+    ensures { IsTrue result ↔ IsRule groups vars lookahead rule.now }
+{
+    is_trigger(groups, rule.on)
+        && rule.conds.len() <= 8
+        && rule.conds.as_slice().iter().all(|c| is_cond(vars, *c))
+        && rule.actions.len() <= 16
+        && rule
+            .actions
+            .as_slice()
+            .iter()
+            .all(|a| is_action(groups, vars, lookahead, *a))
+}
+
+/// What has a name.
+pub trait Named {
+    ghost name_of: { Self → List ℕ };
+
+    fn name(&self) -> &Name
+        ensures { result.now ≡ name_of self.now };
+}
+
+impl Named for Name {
+    ghost name_of = { λ n. n };
+
+    fn name(&self) -> &Name {
+        self
+    }
+}
+
+impl Named for Var {
+    ghost name_of = { λ v. v.name };
+
+    fn name(&self) -> &Name {
+        &self.name
+    }
+}
+
+impl Named for Group {
+    ghost name_of = { λ g. g.name };
+
+    fn name(&self) -> &Name {
+        &self.name
+    }
+}
+
+impl Named for Federate {
+    ghost name_of = { λ f. f.name };
+
+    fn name(&self) -> &Name {
+        &self.name
+    }
+}
+
+fn is_fresh<T: Named>(name: &Name, items: &[T]) -> bool
+    ensures { IsTrue result ↔ All (λ b. T.name_of b ≢ name.now) items.now }
+{
+    items.iter().all(|b| !b.name().is_same(name))
+}
+
+fn names_differ<T: Named>(items: &[T]) -> bool
+    ensures { IsTrue result ↔ AllPairs (λ a b. T.name_of a ≢ T.name_of b) items.now }
+{
+    for (i, a) in items.iter().enumerate() {
+        if !is_fresh(a.name(), &items[..i]) {
+            return false;
+        }
+    }
+    true
+}
+
+fn are_vars(vars: &[Var]) -> bool
+    ensures { IsTrue result ↔ AreVars vars.now }
+{
+    vars.len() <= 8 && vars.iter().all(|v| is_name(&v.name)) && names_differ(vars)
+}
+
+fn are_rules(groups: usize, federate: &Federate) -> bool
+    ensures { IsTrue result ↔ All (IsRule groups (length federate.now.vars) federate.now.lookahead) federate.now.rules }
+{
+    let vars = federate.vars.len();
+    federate
+        .rules
+        .as_slice()
+        .iter()
+        .all(|r| is_rule(groups, vars, federate.lookahead, r))
+}
+
+fn is_federate(groups: usize, federate: &Federate) -> bool
+    ensures { IsTrue result ↔ IsFederate groups federate.now }
+{
+    is_name(&federate.name)
+        && is_step(federate.lookahead as u64)
+        && is_wish(federate.advance)
+        && are_vars(federate.vars.as_slice())
+        && federate.rules.len() <= 64
+        && are_rules(groups, federate)
+}
+
+fn is_group(federates: usize, group: &Group) -> bool
+    requires { federates ≤ 16 }
+    ensures { IsTrue result ↔ IsGroup federates group.now }
+{
+    is_name(&group.name) && (group.members as u32) < 1u32 << federates
+}
+
+fn are_groups(federates: usize, groups: &[Group]) -> bool
+    requires { federates ≤ 16 }
+    ensures { IsTrue result ↔ AreGroups federates groups.now }
+{
+    groups.len() <= 32 && groups.iter().all(|g| is_group(federates, g)) && names_differ(groups)
+}
+
+fn is_count(n: usize) -> bool
+    ensures { IsTrue result ↔ ((1 ≤ n) × (n ≤ 16)) }
+{
+    1 <= n && n <= 16
+}
+
+fn are_federates(groups: usize, federates: &[Federate]) -> bool
+    ensures { IsTrue result ↔ AreFederates groups federates.now }
+{
+    is_count(federates.len())
+        && federates.iter().all(|f| is_federate(groups, f))
+        && names_differ(federates)
+}
+
+/// Whether the parts make a federation.
+pub fn obeys(end: u64, buffers: u16, groups: &[Group], federates: &[Federate]) -> bool
+    ensures { IsTrue result ↔ IsFederation (record { end = end; buffers = buffers; groups = groups.now; federates = federates.now }) }
+{
+    is_step(end)
+        && 1 <= buffers
+        && buffers <= 64
+        && are_federates(groups.len(), federates)
+        && are_groups(federates.len(), groups)
+}

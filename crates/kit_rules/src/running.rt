@@ -1,0 +1,101 @@
+ghost use Rattle.std.specs.Prelude.{◌≡◌, ◌<◌, ◌≤◌, ◌+◌, ◌^◌, [], ◌∷◌, ◌++◌, length, take, drop, OnOk, OnErr, All};
+ghost use Rattle.kit_rules.specs.Federation.{IsAction};
+ghost use Rattle.kit_rules.specs.Step.{after_actions, after_rule, after_rules, same_trigger, IsCounted, CanRun, stepped};
+
+use crate::act::{act, are_met};
+use crate::{Action, ApplyEnd, FedState, Federation, Rule, Scene, State, Trigger};
+use kit_base::Message;
+
+fn act_all(scene: &Scene, state: &mut State, actions: &[Action]) -> Result<(), ApplyEnd>
+    requires time { scene.now.time ≤ 100000 }
+    requires fits { All (IsAction 256 8 scene.now.lookahead) actions.now }
+    requires room { state.old.next ≤ 16385 }
+    ensures ok { OnOk result (state.new ≡ after_actions scene.now state.old actions.now) }
+    ensures kept { take (length state.old.sends) state.new.sends ≡ state.old.sends }
+    ensures spent { result ≡ Err ApplyEnd.SendsSpent → 16385 < (after_actions scene.now state.old actions.now).next }
+    ensures room { OnOk result (state.new.next ≤ 16385) }
+{
+    for action in actions {
+        act(scene, state, *action)?;
+    }
+    Ok(())
+}
+
+fn apply_rule(scene: &Scene, on: Trigger, state: &mut State, rule: &Rule) -> Result<(), ApplyEnd>
+    requires time { scene.now.time ≤ 100000 }
+    requires rule { CanRun scene.now.lookahead rule.now }
+    requires room { state.old.next ≤ 16385 }
+    ensures ok { OnOk result (state.new ≡ after_rule scene.now on state.old rule.now) }
+    ensures kept { take (length state.old.sends) state.new.sends ≡ state.old.sends }
+    ensures spent { result ≡ Err ApplyEnd.SendsSpent → 16385 < (after_rule scene.now on state.old rule.now).next }
+    ensures room { OnOk result (state.new.next ≤ 16385) }
+{
+    if is_same_trigger(rule.on, on) && are_met(scene, &state.vars, rule.conds.as_slice()) {
+        act_all(scene, state, rule.actions.as_slice())
+    } else {
+        Ok(())
+    }
+}
+
+fn is_same_trigger(a: Trigger, b: Trigger) -> bool
+    ensures { result ≡ same_trigger a b }
+{
+    match (a, b) {
+        (Trigger::Start, Trigger::Start) | (Trigger::Grant, Trigger::Grant) => true,
+        (Trigger::Got { group: x }, Trigger::Got { group: y }) => x == y,
+        _ => false,
+    }
+}
+
+pub(crate) fn apply_rules(
+    scene: &Scene,
+    on: Trigger,
+    state: &mut State,
+    rules: &[Rule],
+) -> Result<(), ApplyEnd>
+    requires time { scene.now.time ≤ 100000 }
+    requires rules { All (CanRun scene.now.lookahead) rules.now }
+    requires room { state.old.next ≤ 16385 }
+    ensures ok { OnOk result (state.new ≡ after_rules scene.now on state.old rules.now) }
+    ensures kept { take (length state.old.sends) state.new.sends ≡ state.old.sends }
+    ensures spent { result ≡ Err ApplyEnd.SendsSpent → 16385 < (after_rules scene.now on state.old rules.now).next }
+    ensures room { OnOk result (state.new.next ≤ 16385) }
+{
+    for rule in rules {
+        apply_rule(scene, on, state, rule)?;
+    }
+    Ok(())
+}
+
+/// Applies the rules of a trigger, in the order of the table.
+pub fn apply(
+    federation: &Federation,
+    federate: u8,
+    state: &mut FedState,
+    trigger: Trigger,
+    now: u64,
+    value: u32,
+    sends: &mut Vec<Message>,
+) -> Result<(), ApplyEnd>
+    requires federate { federate < length federation.now.federates }
+    requires time { now ≤ federation.now.end }
+
+    ensures state { OnOk result (state.new ≡ stepped federation.now federate trigger now value state.old) }
+    ensures sends { OnOk result (sends.new.items ≡ sends.old.items ++ drop (length state.old.sends) state.new.sends) }
+    ensures unchanged { OnErr result ((state.new ≡ state.old) × (sends.new.items ≡ sends.old.items)) }
+    ensures kept { take (length state.old.sends) state.new.sends ≡ state.old.sends }
+
+    // Number 16,385 is what is refused, and nothing else is but for memory.
+    ensures spent { result ≡ Err ApplyEnd.SendsSpent → 16385 < (stepped federation.now federate trigger now value state.old).next }
+    ensures room { OnOk result (state.new.next ≤ 16385) }
+{
+    let rules = federation.federate(federate);
+    let scene = Scene {
+        end: federation.end(),
+        sender: federate,
+        lookahead: rules.lookahead,
+        time: now,
+        value,
+    };
+    state.run(&scene, trigger, rules.rules.as_slice(), sends)
+}
