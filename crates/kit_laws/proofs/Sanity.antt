@@ -1,0 +1,71 @@
+-- Requests that stay within the end, and grants that go to a federate there is.
+use Rattle.std.proofs.Common.{◌≡◌, ℕ, ◌+◌, ◌<◌, ◌≤◌, min, true, false, cond, List, [], ◌∷◌, length, fold, Option, Some, None, IfSome, nat_lt, arith, sym, subst, ◌∙◌, length-set}
+use Rattle.std.specs.List.{All, AllByRecursion}
+use Rattle.std.proofs.lemmas.List.Elements.{All-set, All-head, All-tail}
+use Rattle.std.proofs.lemmas.List.FromFn.{get_or-map-range_with_len, length-map-range_with_len}
+use Rattle.kit_base.specs.declared.message.Message.{Message}
+use Rattle.kit_rules.specs.declared.table.Wish.{Wish}
+use Rattle.kit_rules.specs.declared.table.Wish.TheVariants as wish
+use Rattle.kit_rules.specs.declared.table.Request.{Request}
+use Rattle.kit_rules.specs.declared.table.Request.TheVariants as request
+use Rattle.kit_rules.specs.Parts.{Parts}
+use Rattle.kit_rules.specs.Delivery.{due_time, pending}
+use Rattle.kit_laws.specs.Sane.{IsSane, time_of}
+use Rattle.kit_rules.specs.Simulation.{Seat, World, request_at, seat_due, waiting_from, is_sooner, sooner, least, started, started_seat, seat_at, granted_at, granted, granted_seat}
+
+pub request_capped : (w : Wish) (now end : ℕ) → time_of (request_at w now end) ≤ end
+request_capped (wish.Tar step) now end = omega arith
+request_capped (wish.Ner step) now end = omega arith
+
+earliest_capped : (t : ℕ) (ms : List Message) → fold (λ (t : ℕ) (m : Message). min t m.time) t ms ≤ t
+earliest_capped t [] = omega arith
+earliest_capped t (m ∷ ms) = omega (arith, earliest_capped (min t m.time) ms)
+
+due_capped : (r : Request) (ms : List Message) → due_time r ms ≤ time_of r
+due_capped (request.Tar t) ms = omega arith
+due_capped (request.Ner t) ms = earliest_capped t ms
+
+abbrev Fine : ℕ → ℕ → ℕ × ℕ → Type 0
+Fine n end g = (g.1 < n) × (g.0 ≤ end)
+
+waiting_fine : (p : Parts) (sent : List Message) (i n : ℕ) (ss : List Seat) → i + length ss ≤ n → All (λ (s : Seat). time_of s.request ≤ p.end) ss → AllByRecursion (Fine n p.end) (waiting_from p sent i ss)
+waiting_fine p sent i n [] le h = tt
+waiting_fine p sent i n (s ∷ ss) le h =
+    let capped : time_of s.request ≤ p.end = All-head (λ (s : Seat). time_of s.request ≤ p.end) s ss h in
+    let rest : AllByRecursion (Fine n p.end) (waiting_from p sent (i + 1) ss) = waiting_fine p sent (i + 1) n ss (omega arith) (All-tail (λ (s : Seat). time_of s.request ≤ p.end) s ss h) in
+    elim (nat_lt s.now p.end) as (λ b. AllByRecursion (Fine n p.end) (cond b ((seat_due p sent i s, i) ∷ waiting_from p sent (i + 1) ss) (waiting_from p sent (i + 1) ss)))
+    [ true ↦ ((omega arith, omega (arith, capped, due_capped s.request (pending p i s.got sent))), rest) | false ↦ rest ]
+
+sooner_keeps : (P : ℕ × ℕ → Type 0) (best : Option (ℕ × ℕ)) (x : ℕ × ℕ) → IfSome best P → P x → P (sooner best x)
+sooner_keeps P None x b h = h
+sooner_keeps P (Some a) x b h = elim (is_sooner x a) as (λ t. P (cond t x a)) [ true ↦ h | false ↦ b ]
+
+least_keeps : (P : ℕ × ℕ → Type 0) (best : Option (ℕ × ℕ)) (xs : List (ℕ × ℕ)) → IfSome best P → AllByRecursion P xs → IfSome (least best xs) P
+least_keeps P best [] b h = b
+least_keeps P best (x ∷ xs) b h = least_keeps P (Some (sooner best x)) xs (sooner_keeps P best x b h.0) h.1
+
+pub next_fine : (p : Parts) (sent : List Message) (ss : List Seat) (g : ℕ × ℕ) → IsSane p ss → least None (waiting_from p sent 0 ss) ≡ Some g → (g.1 < length ss) × (g.0 ≤ p.end)
+next_fine p sent ss g sane is =
+    let P : Option (ℕ × ℕ) → Type 0 = λ o. IfSome o (Fine (length ss) p.end) in
+    subst P is (least_keeps (Fine (length ss) p.end) None (waiting_from p sent 0 ss) tt (waiting_fine p sent 0 (length ss) ss (omega arith) sane.capped))
+
+pub started_sane : (p : Parts) → IsSane p (started p).seats
+started_sane p = record {
+  count = length-map-range_with_len (started_seat p) 0 (length p.federates);
+  capped = λ k d lt.
+      let below : k < length p.federates = omega (arith, length-map-range_with_len (started_seat p) 0 (length p.federates)) in
+      let P : Seat → Type 0 = λ s. time_of s.request ≤ p.end in
+      subst P (sym (get_or-map-range_with_len (started_seat p) 0 (length p.federates) k k d below (omega arith))) (request_capped (started_seat p k).state.wish 0 p.end);
+}
+
+pub granted_capped : (p : Parts) (i d : ℕ) (sent : List Message) (s : Seat) → time_of s.request ≤ p.end → time_of (granted_seat p i d sent s).request ≤ p.end
+granted_capped p i d sent s h =
+    let after = (granted_seat p i d sent s).state in
+    elim (nat_lt d p.end) as (λ b. time_of (cond b (request_at after.wish d p.end) s.request) ≤ p.end)
+    [ true ↦ request_capped after.wish d p.end | false ↦ h ]
+
+pub granted_sane : (p : Parts) (w : World) (g : ℕ × ℕ) → g.1 < length w.seats → IsSane p w.seats → IsSane p (granted p w g).seats
+granted_sane p w g lt sane = record {
+  count = length-set w.seats g.1 (granted_at p w g) ∙ sane.count;
+  capped = All-set (λ (s : Seat). time_of s.request ≤ p.end) w.seats g.1 (granted_at p w g) (granted_capped p g.1 g.0 w.messages (seat_at w g.1) (sane.capped g.1 _ lt)) sane.capped;
+}

@@ -1,0 +1,61 @@
+-- Laws of the sequential simulation.
+use Rattle.std.specs.Prelude.{◌≡◌, ℕ, ◌+◌, ◌*◌, ◌<◌, ◌≤◌, false, IsTrue, List, [], ◌∷◌, length, map, Some, None}
+use Rattle.std.specs.List.{All, AllByRecursion}
+use Rattle.kit_rules.specs.Parts.{Parts}
+use Rattle.kit_rules.specs.Federation.{IsFederation}
+use Rattle.kit_rules.specs.Simulation.{Seat, Block, World, seat_at, seat_due, is_sooner, next_grant, started, granted, after_grants, simulated}
+
+-- each grant comes after the one before it, by due time and then by federate
+abbrev pub GrantsRise : Type 0
+GrantsRise = (p : Parts) → IsFederation p → (n : ℕ) (g h : ℕ × ℕ)
+    → next_grant p (after_grants p n (started p)) ≡ Some g → next_grant p (after_grants p (n + 1) (started p)) ≡ Some h → IsTrue (is_sooner g h)
+
+-- after as many turns as federates times the end, nobody waits
+abbrev pub GrantsEnd : Type 0
+GrantsEnd = (p : Parts) → IsFederation p → next_grant p (simulated p) ≡ None
+
+-- the last grant of each federate is the end
+abbrev pub LastGrants : Type 0
+LastGrants = (p : Parts) → IsFederation p → All (λ (s : Seat). s.now ≡ p.end) (simulated p).seats
+
+-- federate g.1 stands below the end, and g.0 is its due time
+pub record Waits (p : Parts) (w : World) (g : ℕ × ℕ) : Type 0 where
+  pub within : g.1 < length w.seats
+  pub below : (seat_at w g.1).now < p.end
+  pub due : g.0 ≡ seat_due p w.messages g.1 (seat_at w g.1)
+
+-- the least pair of those that wait
+pub record IsNext (p : Parts) (w : World) (g : ℕ × ℕ) : Type 0 where
+  pub waits : Waits p w g
+  pub least : (h : ℕ × ℕ) → Waits p w h → is_sooner h g ≡ false
+
+-- from one world to another, the least pair is granted again and again
+pub data Runs (p : Parts) : World → World → Type 0 where
+  done : (w : World) → Runs p w w
+  more : (w : World) (g : ℕ × ℕ) (v : World) → IsNext p w g → Runs p (granted p w g) v → Runs p w v
+
+-- a run from the start to a world in which nobody waits
+pub record IsSimulation (p : Parts) (v : World) : Type 0 where
+  pub run : Runs p (started p) v
+  pub over : (g : ℕ × ℕ) → Waits p v g → ⊥
+
+-- there is one simulation
+abbrev pub OneSimulation : Type 0
+OneSimulation = (p : Parts) → IsFederation p → IsSimulation p (simulated p) × ((v : World) → IsSimulation p v → v ≡ simulated p)
+
+-- the grants of these blocks, in their order
+abbrev pub grants_of : List Block → List (ℕ × ℕ)
+grants_of blocks = map (λ (b : Block). (b.time, b.federate)) blocks
+
+-- each comes before those behind it
+abbrev pub Ascend : List (ℕ × ℕ) → Type 0
+Ascend [] = Unit {0}
+Ascend (g ∷ gs) = AllByRecursion (λ h. IsTrue (is_sooner g h)) gs × Ascend gs
+
+-- the grants stand in the order of time and federate
+abbrev pub BlocksAscend : Type 0
+BlocksAscend = (p : Parts) → IsFederation p → Ascend (grants_of (simulated p).blocks)
+
+-- there are at most as many grants as federates times the end
+abbrev pub FewGrants : Type 0
+FewGrants = (p : Parts) → length (simulated p).blocks ≤ length p.federates * p.end
