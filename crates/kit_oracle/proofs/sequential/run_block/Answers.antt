@@ -1,0 +1,16 @@
+use Rattle.std.proofs.Common.{◌∙◌, ap, length, drop, ◌++◌}
+use Rattle.std.proofs.lemmas.Result.{err_from_is_err_and, on_ok_weaker}
+use Rattle.kit_laws.proofs.Joins.{sent_in_a_row, deliveries_longer, past_from_deliveries}
+use Rattle.kit_oracle.proofs.sequential.run_block.Goals as goal
+
+pub returns-in_err-deliver_all-clause-spent : goal.returns-in_err-deliver_all-clause-spent
+returns-in_err-deliver_all-clause-spent c e =
+    let p = err_from_is_err_and c.from_residual.result c.from_residual.ensures.1 in
+    past_from_deliveries c.args.federation.now c.args.i c.args.d 16385 c.args.state.now c.args.due.now (c.in_err-deliver_all.ensures.spent (cc (p.1, p.2)))
+
+pub returns-clause-messages : goal.returns-clause-messages
+returns-clause-messages c =
+    on_ok_weaker c.apply.result (λ e. e ∙ ap (λ xs. xs ++ drop (length c.deliver_all.new.state.sends) c.apply.new.state.sends) c.in_ok-deliver_all.ensures.messages
+    ∙ sent_in_a_row _ c.deliver_all.new.state.sends c.apply.new.state.sends _
+    (deliveries_longer c.args.federation.now c.args.i c.args.d c.args.state.now c.deliver_all.new.state c.args.due.now c.in_ok-deliver_all.ensures.state) c.apply.ensures.kept)
+    c.apply.ensures.sends

@@ -1,0 +1,8 @@
+//! The sequential timestamp-ordered simulation.
+#![tactic(auto)]
+
+mod desk;
+mod sequential;
+mod waiting;
+
+pub use sequential::{OracleEnd, simulate};
