@@ -1,6 +1,7 @@
 -- Lines and messages of the simulation name what is there.
-use Rattle.std.proofs.Common.{◌≡◌, ℕ, zero, suc, inl, inr, ◌+◌, ◌*◌, ◌<◌, ◌≤◌, Bool, true, false, cond, List, [], ◌∷◌, length, map, drop, get_or, set, filter, fold, Option, Some, None, arith, refl, sym, subst, length-set}
+use Rattle.std.proofs.Common.{◌≡◌, ℕ, zero, suc, inl, inr, ◌+◌, ◌*◌, ◌<◌, ◌≤◌, Bool, true, false, cond, List, [], ◌∷◌, length, map, drop, get_or, set, filter, fold, Option, Some, None, IfSome, find, arith, refl, sym, subst, length-set}
 use Rattle.std.specs.List.{AllByRecursion, range_with_len, flat_map, All}
+use Rattle.std.specs.Option.{option_map}
 use Rattle.std.proofs.lemmas.Bool.{cases_eq}
 use Rattle.std.proofs.lemmas.List.{get_or-set_other, get_or-set_same}
 use Rattle.std.proofs.lemmas.List.Elements.{All-from_recursion}
@@ -16,7 +17,7 @@ use Rattle.kit_rules.proofs.Kept.{Kept, HasGroup}
 use Rattle.kit_base.specs.Order.{is_before, put}
 use Rattle.kit_rules.specs.Delivery.{is_due, due_messages}
 use Rattle.kit_rules.specs.Fits.{MessageFits, LineFits}
-use Rattle.kit_rules.specs.Simulation.{Seat, Block, World, next_grant, started, started_seat, seat_at, nobody_seated, granted_at, granted, granted_or_same, advanced, after_grants, simulated, block, block_lines, lines_of}
+use Rattle.kit_rules.specs.Simulation.{Seat, Block, World, next_grant, started, started_seat, seat_at, nobody_seated, granted_at, granted, granted_or_same, advanced, after_grants, simulated, block, block_lines, lines_of, is_spent, spender}
 use Rattle.kit_laws.proofs.Pendings.{all-append}
 use Rattle.kit_laws.proofs.Numbers.{gained}
 use Rattle.kit_laws.proofs.Worlds.{grows_by_grant, grows_by_start}
@@ -126,3 +127,18 @@ simulated_fits p f =
 
 pub simulated_count : (p : Parts) → IsFederation p → length (simulated p).seats ≡ length p.federates
 simulated_count p f = (fit_after p (0, 0) (started p) (length p.federates * p.end) f (started_reached p f) (started_fit p f)).1.count
+
+-- what is found in a list keeps what all keep
+all_found : (P : Message → Type 0) (q : Message → Bool) (ms : List Message) → AllByRecursion P ms → IfSome (find q ms) P
+all_found P q [] h = tt
+all_found P q (x ∷ xs) h = elim (q x) as (λ b. IfSome (cond b (Some x) (find q xs)) P) [ true ↦ h.0 | false ↦ all_found P q xs h.1 ]
+
+sender_within : (p : Parts) (o : Option Message) (i : ℕ) → IfSome o (MessageFits p) → option_map (λ (m : Message). m.sender) o ≡ Some i → i < length p.federates
+sender_within p None i h e = absurd (cc)
+sender_within p (Some m) i h e = let same : m.sender ≡ i = cc in let fits : MessageFits p m = h in omega (arith, fits.0, same)
+
+-- the federate that takes number 16,385 is there
+pub spender_within : (p : Parts) (i : ℕ) → IsFederation p → spender p ≡ Some i → i < length p.federates
+spender_within p i f e =
+    let a = fit_after p (0, 0) (started p) (length p.federates * p.end) f (started_reached p f) (started_fit p f) in
+    sender_within p (find is_spent (simulated p).messages) i (all_found (MessageFits p) is_spent (simulated p).messages a.2.messages) e

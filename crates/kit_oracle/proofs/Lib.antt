@@ -1,1 +1,13 @@
-pub mod Turns
+mod Ordered
+mod Fronts
+mod Posts
+mod Numbering
+mod Starting
+mod Removing
+mod Keeping
+mod Entering
+mod Showing
+mod Delivering
+mod Rounds
+mod Freshness
+mod Progress

@@ -2,9 +2,10 @@
 use Rattle.std.specs.Prelude.{ℕ, Result, Ok, Err}
 use Rattle.kit_rules.specs.declared.scene.ApplyEnd.{ApplyEnd}
 use Rattle.kit_rules.specs.declared.scene.ApplyEnd.TheVariants as apply
-use Rattle.kit_oracle.specs.declared.sequential.OracleEnd.{OracleEnd}
-use Rattle.kit_oracle.specs.declared.sequential.OracleEnd.TheVariants.{SendsSpent, NoMemory}
+use Rattle.kit_oracle.specs.declared.end.OracleEnd.{OracleEnd}
+use Rattle.kit_oracle.specs.declared.end.OracleEnd.TheVariants.{SendsSpent, NoMemory}
 
+-- the end of a simulation whose federate i could not go on
 abbrev pub oracle_end : ApplyEnd → ℕ → OracleEnd
 oracle_end apply.SendsSpent i = SendsSpent i
 oracle_end apply.NoMemory i = NoMemory

@@ -1,2 +1,3 @@
 pub mod Ends
-pub mod Shows
+pub mod Queues
+pub mod Desks

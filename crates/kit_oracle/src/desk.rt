@@ -1,20 +1,56 @@
-use kit_base::{Items, Message};
-use kit_rules::{FedState, Request};
-use std::marker::Model;
+ghost use Rattle.std.specs.Prelude.{◌≡◌, ◌≤◌, length, None};
+ghost use Rattle.kit_rules.specs.Simulation.{least, sooner};
+ghost use Rattle.kit_oracle.specs.Desks.{due_in, waiting_at};
 
-/// A federate in the simulation: its time, its request, its state, and what was delivered to it.
-#[derive(Debug, Drop)]
-pub struct Desk {
-    pub now: u64,
-    pub request: Request,
-    pub state: FedState,
-    pub got: Items<Message>,
+use crate::queue::Queue;
+use kit_rules::{FedState, Request};
+
+/// What the simulation keeps of a federate: its time, its request, its state, and the messages
+/// that are pending for it.
+#[derive(Drop)]
+pub(crate) struct Desk {
+    pub(crate) now: u64,
+    pub(crate) request: Request,
+    pub(crate) state: FedState,
+    pub(crate) queue: Queue,
 }
 
-impl Model for Desk {
-    ghost use Rattle.kit_rules.specs.Simulation.{Seat};
+/// When a request is due.
+fn due_of(request: Request, queue: &Queue) -> u64
+    ensures { result ≡ due_in request queue.now }
+{
+    match request {
+        Request::Tar(time) => time,
+        Request::Ner(time) => queue.first_time(time),
+    }
+}
 
-    ghost Value = { Seat };
+fn sooner_of(best: Option<(u64, u8)>, pair: (u64, u8)) -> (u64, u8)
+    ensures { result ≡ sooner best pair }
+{
+    match best {
+        None => pair,
+        Some(old) => {
+            if pair.0 < old.0 || (pair.0 == old.0 && pair.1 < old.1) {
+                pair
+            } else {
+                old
+            }
+        }
+    }
+}
 
-    ghost view = { λ d. record { now = d.now; request = d.request; state = d.state; got = d.got } };
+/// The least pair of a due time and a federate below the end.
+pub(crate) fn next_of(end: u64, desks: &[Desk]) -> Option<(u64, u8)>
+    requires { length desks.now ≤ 16 }
+    ensures { result ≡ least None (waiting_at end 0 desks.now) }
+{
+    let mut best = None;
+    for (i, desk) in desks.iter().enumerate() {
+        if desk.now < end {
+            let time = due_of(desk.request, &desk.queue);
+            best = Some(sooner_of(best, (time, i as u8)));
+        }
+    }
+    best
 }

@@ -1,8 +1,16 @@
-//! The sequential timestamp-ordered simulation.
+//! The sequential simulation of a federation.
 #![tactic(auto)]
 
 mod desk;
-mod sequential;
-mod waiting;
+mod end;
+mod grants;
+mod opening;
+mod posting;
+mod queue;
+mod simulation;
 
-pub use sequential::{OracleEnd, simulate};
+pub use end::OracleEnd;
+pub use simulation::simulate;
+
+#[cfg(test)]
+mod tests;

@@ -24,25 +24,31 @@ is_aim r x = is_event x.kind && nat_eq x.number r.value && nat_eq x.time r.time
 abbrev pub Aims : List Message → Message → Type 0
 Aims xs r = is_event r.kind ≡ false → (list_any (is_aim r) xs ≡ true) × (r.value < r.number)
 
+-- a message has a number below n
 abbrev pub Under : ℕ → Message → Type 0
 Under n x = x.number < n
 
+-- the sends have numbers below the next one, and their Retractions name Events among them
 pub record Aimed (s : State) : Type 0 where
   pub under : AllByRecursion (Under s.next) s.sends
   pub aims : AllByRecursion (Aims s.sends) s.sends
 
+-- what follows for each element follows for all
 weaker : (P Q : Message → Type 0) (xs : List Message) → ((x : Message) → P x → Q x) → AllByRecursion P xs → AllByRecursion Q xs
 weaker P Q [] f h = tt
 weaker P Q (x ∷ xs) f h = (f x h.0, weaker P Q xs f h.1)
 
+-- what holds of each of two lists holds of both together
 all-append : (P : Message → Type 0) (xs ys : List Message) → AllByRecursion P xs → AllByRecursion P ys → AllByRecursion P (xs ++ ys)
 all-append P [] ys a b = b
 all-append P (x ∷ xs) ys a b = (a.0, all-append P xs ys a.1 b)
 
+-- one of two tests is enough
 or_true : (a : Bool) → (a || true) ≡ true
 or_true true = refl
 or_true false = refl
 
+-- a list that is longer has what it had
 any_more : (p : Message → Bool) (xs ys : List Message) → list_any p xs ≡ true → list_any p (xs ++ ys) ≡ true
 any_more p xs ys h = list_any-append p xs ys ∙ ap (λ b. b || list_any p ys) h
 
@@ -50,6 +56,7 @@ any_more p xs ys h = list_any-append p xs ys ∙ ap (λ b. b || list_any p ys) h
 abbrev Good : List Message → ℕ → Message → Type 0
 Good xs n m = (list_any (λ (x : Message). is_event x.kind && nat_eq x.number m.number && nat_eq x.time m.time) xs ≡ true) × (m.number < n)
 
+-- an Event that is found is one of the list, of a number below n
 found_good : (p : Message → Bool) (all xs : List Message) (n : ℕ) → ((m : Message) → p m ≡ true → is_event m.kind ≡ true) → AllByRecursion (Under n) xs
     → ((m : Message) → list_any (λ (x : Message). is_event x.kind && nat_eq x.number m.number && nat_eq x.time m.time) xs ≡ true → list_any (λ (x : Message). is_event x.kind && nat_eq x.number m.number && nat_eq x.time m.time) all ≡ true)
     → IfSome (find p xs) (Good all n)
@@ -62,13 +69,16 @@ found_good p all (x ∷ xs) n event under up =
     let rest : IfSome (find p xs) (Good all n) = found_good p all xs n event under.1 (λ m h. up m (ap (λ b. same m x || b) h ∙ or_true (same m x))) in
     elim (p x) as (λ b. (b ≡ true → Good all n x) → IfSome (cond b (Some x) (find p xs)) (Good all n)) [ true ↦ λ f. f refl | false ↦ λ f. rest ] here
 
+-- a target is an Event
 target_event : (scene : Scene) (sends : List Message) (n : ℕ) (m : Message) → is_target scene sends n m ≡ true → is_event m.kind ≡ true
 target_event scene sends n m h = (and_parts _ _ (and_parts _ _ (and_parts _ _ (and_parts (is_event m.kind && (nat_eq m.number n) && nat_le m.time scene.end && nat_le (scene.time + scene.lookahead) m.time) _ h).0).0).0).0
 
+-- a Retraction of such an Event names it
 retraction_aims : (scene : Scene) (s : State) (o : Option Message) → IfSome o (Good s.sends s.next) → AllByRecursion (Aims s.sends) (option_to_list (option_map (retraction_of scene s) o))
 retraction_aims scene s None h = tt
 retraction_aims scene s (Some m) h = ((λ e. (h.0, h.1)), tt)
 
+-- so what an action sends names an Event where it is a Retraction
 made_aims : (scene : Scene) (s : State) (a : Action) → Aimed s → AllByRecursion (Aims s.sends) (option_to_list (message_of scene s a))
 made_aims scene s (action.Set v to) h = tt
 made_aims scene s (action.Add v by) h = tt
@@ -80,6 +90,7 @@ made_aims scene s (action.Retract v) h =
 made_aims scene s (action.Tar n) h = tt
 made_aims scene s (action.Ner n) h = tt
 
+-- and has a number below the next one after it
 made_under : (scene : Scene) (s : State) (a : Action) → AllByRecursion (Under (s.next + length (option_to_list (message_of scene s a)))) (option_to_list (message_of scene s a))
 made_under scene s (action.Set v to) = tt
 made_under scene s (action.Add v by) = tt
@@ -91,6 +102,7 @@ made_under scene s (action.Retract v) =
 made_under scene s (action.Tar n) = tt
 made_under scene s (action.Ner n) = tt
 
+-- an action keeps that
 aimed_by_action : (scene : Scene) (s : State) (a : Action) → Aimed s → Aimed (after_action scene s a)
 aimed_by_action scene s a h =
     let made = option_to_list (message_of scene s a) in
@@ -100,10 +112,12 @@ aimed_by_action scene s a h =
       aims = all-append (Aims (s.sends ++ made)) s.sends made (weaker (Aims s.sends) (Aims (s.sends ++ made)) s.sends up h.aims) (weaker (Aims s.sends) (Aims (s.sends ++ made)) made up (made_aims scene s a h));
     }
 
+-- and so do several
 aimed_by_actions : (scene : Scene) (s : State) (as' : List Action) → Aimed s → Aimed (after_actions scene s as')
 aimed_by_actions scene s [] h = h
 aimed_by_actions scene s (a ∷ as') h = aimed_by_actions scene (after_action scene s a) as' (aimed_by_action scene s a h)
 
+-- and so do rules
 aimed_by_rules : (scene : Scene) (on : Trigger) (s : State) (rs : List Rule) → Aimed s → Aimed (after_rules scene on s rs)
 aimed_by_rules scene on s [] h = h
 aimed_by_rules scene on s (r ∷ rs) h =
@@ -119,6 +133,7 @@ past_all : (sender n : ℕ) (xs : List Message) (k t : ℕ) → AreNumbered send
 past_all sender n [] k t h lt = tt
 past_all sender n (x ∷ xs) k t h lt = ((λ e. absurd (let a : x.number ≡ n = h.1 in omega arith)), past_all sender (n + 1) xs k t h.2 (omega arith))
 
+-- below the first number no message is named
 past_none : (sender n : ℕ) (xs : List Message) (r : Message) → AreNumbered sender n xs → r.value < n → list_any (is_aim r) xs ≡ false
 past_none sender n [] r h lt = refl
 past_none sender n (x ∷ xs) r h lt =
@@ -130,6 +145,7 @@ past_none sender n (x ∷ xs) r h lt =
     never true b = refl
     never false b = refl
 
+-- an Event that a Retraction names has its time, and so has each of that number
 pub one_time : (sender n : ℕ) (xs : List Message) (r : Message) → AreNumbered sender n xs → list_any (is_aim r) xs ≡ true → AllByRecursion (λ (x : Message). x.number ≡ r.value → x.time ≡ r.time) xs
 one_time sender n [] r h e = tt
 one_time sender n (x ∷ xs) r h e =

@@ -10,16 +10,19 @@ use Rattle.kit_rules.specs.Parts.{Parts, federate_at, nobody}
 use Rattle.kit_rules.specs.Federation.{IsOperand, IsAction, IsRule, IsFederation}
 use Rattle.kit_rules.specs.Step.{CanRun}
 
+-- an operand that fits few variables fits more
 operand_below : (m n : ℕ) (o : Operand) → m ≤ n → IsOperand m o → IsOperand n o
 operand_below m n (operand.Num x) le h = tt
 operand_below m n (operand.Var v) le h = omega arith
 operand_below m n operand.Now le h = tt
 operand_below m n operand.Value le h = tt
 
+-- and so does a variable that is kept
 kept_below : (m n : ℕ) (k : Option ℕ) → m ≤ n → IfSome k (λ v. v < m) → IfSome k (λ v. v < n)
 kept_below m n None le h = h
 kept_below m n (Some v) le h = let lt : v < m = h in let below : v < n = omega arith in below
 
+-- and so does an action, which fits more groups too
 action_below : (g m l : ℕ) (a : Action) → g ≤ 256 → m ≤ 8 → IsAction g m l a → IsAction 256 8 l a
 action_below g m l (action.Set v to) few le h = (omega (arith, h.0), operand_below m 8 to le h.1)
 action_below g m l (action.Add v by) few le h = (omega (arith, h.0), operand_below m 8 by le h.1)
@@ -29,12 +32,14 @@ action_below g m l (action.Retract v) few le h = omega (arith, h)
 action_below g m l (action.Tar step) few le h = h
 action_below g m l (action.Ner step) few le h = h
 
+-- and so does a rule
 rule_below : (g m l : ℕ) (r : Rule) → g ≤ 256 → m ≤ 8 → IsRule g m l r → CanRun l r
 rule_below g m l r few le h = record {
   conds = λ k d lt. (operand_below m 8 _ le (h.conds k d lt).0, operand_below m 8 _ le (h.conds k d lt).1);
   actions = λ k d lt. action_below g m l _ few le (h.actions k d lt);
 }
 
+-- the rules of a federation can run
 pub rules_can_run : (p : Parts) (i : ℕ) → IsFederation p → i < length p.federates → All (CanRun (federate_at p i).lookahead) (federate_at p i).rules
 rules_can_run p i h lt k d below =
     let f = h.federates.each i nobody lt in

@@ -15,10 +15,12 @@ use Rattle.kit_rules.specs.declared.scene.Scene.{Scene}
 use Rattle.kit_rules.specs.declared.scene.State.{State}
 use Rattle.kit_rules.specs.Step.{is_event, message_of, retraction_of, is_target, after_action, after_actions, after_rule, after_rules, same_trigger, conditions_hold, scene_of, stepped}
 
+-- what holds of each of two lists holds of both together
 all-append : {X : Type 0} (P : X → Type 0) (xs ys : List X) → AllByRecursion P xs → AllByRecursion P ys → AllByRecursion P (xs ++ ys)
 all-append P [] ys a b = b
 all-append P (x ∷ xs) ys a b = (a.0, all-append P xs ys a.1 b)
 
+-- what holds of each element holds of one that is found
 find_keeps : {X : Type 0} (P : X → Type 0) (p : X → Bool) (xs : List X) → AllByRecursion P xs → IfSome (find p xs) P
 find_keeps P p [] h = tt
 find_keeps P p (x ∷ xs) h = elim (p x) as (λ b. IfSome (cond b (Some x) (find p xs)) P) [ true ↦ h.0 | false ↦ find_keeps P p xs h.1 ]
@@ -27,9 +29,11 @@ find_keeps P p (x ∷ xs) h = elim (p x) as (λ b. IfSome (cond b (Some x) (find
 abbrev pub Later : ℕ → Message → Type 0
 Later d m = is_event m.kind ≡ true → d < m.time
 
+-- a message names one of so many groups
 abbrev pub HasGroup : ℕ → Message → Type 0
 HasGroup groups m = m.group < groups
 
+-- what a step keeps from one state to the next: a fit wish, fit sends, and new Events after d
 pub record Kept (groups d : ℕ) (old new : State) : Type 0 where
   pub wish : IsWish old.wish → IsWish new.wish
   pub fits : AllByRecursion (HasGroup groups) old.sends → AllByRecursion (HasGroup groups) new.sends
@@ -37,9 +41,11 @@ pub record Kept (groups d : ℕ) (old new : State) : Type 0 where
   pub sends : new.sends ≡ old.sends ++ made
   pub later : AllByRecursion (Later d) made
 
+-- no step keeps all of it
 pub kept_none : (groups d : ℕ) (s : State) → Kept groups d s s
 kept_none groups d s = record { wish = λ h. h; fits = λ h. h; made = []; sends = sym (append-nil s.sends); later = tt }
 
+-- and two steps in a row do, where each does
 pub kept_more : (groups d : ℕ) (a b c : State) → Kept groups d a b → Kept groups d b c → Kept groups d a c
 kept_more groups d a b c g h = record {
   wish = λ w. h.wish (g.wish w);
@@ -49,6 +55,7 @@ kept_more groups d a b c g h = record {
   later = all-append (Later d) g.made h.made g.later h.later;
 }
 
+-- an action leaves a fit wish
 wish_kept : (scene : Scene) (groups vars : ℕ) (s : State) (a : Action) → IsAction groups vars scene.lookahead a → IsWish s.wish → IsWish (after_action scene s a).wish
 wish_kept scene groups vars s (action.Set v to) h w = w
 wish_kept scene groups vars s (action.Add v by) h w = w
@@ -58,14 +65,17 @@ wish_kept scene groups vars s (action.Retract v) h w = w
 wish_kept scene groups vars s (action.Tar n) h w = h
 wish_kept scene groups vars s (action.Ner n) h w = h
 
+-- a Retraction names the group of its target
 retraction_fits : (scene : Scene) (s : State) (groups : ℕ) (o : Option Message) → IfSome o (HasGroup groups) → AllByRecursion (HasGroup groups) (option_to_list (option_map (retraction_of scene s) o))
 retraction_fits scene s groups None h = tt
 retraction_fits scene s groups (Some m) h = (h, tt)
 
+-- a Retraction is no Event
 retraction_later : (scene : Scene) (s : State) (d : ℕ) (o : Option Message) → AllByRecursion (Later d) (option_to_list (option_map (retraction_of scene s) o))
 retraction_later scene s d None = tt
 retraction_later scene s d (Some m) = ((λ e. absurd (cc)), tt)
 
+-- what an action sends names a group that is there
 made_fits : (scene : Scene) (groups vars : ℕ) (s : State) (a : Action) → IsAction groups vars scene.lookahead a → AllByRecursion (HasGroup groups) s.sends → AllByRecursion (HasGroup groups) (option_to_list (message_of scene s a))
 made_fits scene groups vars s (action.Set v to) h f = tt
 made_fits scene groups vars s (action.Add v by) h f = tt
@@ -76,6 +86,7 @@ made_fits scene groups vars s (action.Retract v) h f =
 made_fits scene groups vars s (action.Tar n) h f = tt
 made_fits scene groups vars s (action.Ner n) h f = tt
 
+-- and an Event that it sends is timed after now
 made_later : (scene : Scene) (groups vars : ℕ) (s : State) (a : Action) → 1 ≤ scene.lookahead → IsAction groups vars scene.lookahead a → AllByRecursion (Later scene.time) (option_to_list (message_of scene s a))
 made_later scene groups vars s (action.Set v to) one h = tt
 made_later scene groups vars s (action.Add v by) one h = tt
@@ -85,6 +96,7 @@ made_later scene groups vars s (action.Retract v) one h = retraction_later scene
 made_later scene groups vars s (action.Tar n) one h = tt
 made_later scene groups vars s (action.Ner n) one h = tt
 
+-- an action keeps it
 kept_by_action : (scene : Scene) (groups vars : ℕ) (s : State) (a : Action) → 1 ≤ scene.lookahead → IsAction groups vars scene.lookahead a → Kept groups scene.time s (after_action scene s a)
 kept_by_action scene groups vars s a one h = record {
   wish = wish_kept scene groups vars s a h;
@@ -94,23 +106,27 @@ kept_by_action scene groups vars s a one h = record {
   later = made_later scene groups vars s a one h;
 }
 
+-- and so do several
 kept_by_actions : (scene : Scene) (groups vars : ℕ) (s : State) (as' : List Action) → 1 ≤ scene.lookahead → All (IsAction groups vars scene.lookahead) as' → Kept groups scene.time s (after_actions scene s as')
 kept_by_actions scene groups vars s [] one h = kept_none groups scene.time s
 kept_by_actions scene groups vars s (a ∷ as') one h =
     kept_more groups scene.time _ _ _ (kept_by_action scene groups vars s a one (All-head (IsAction groups vars scene.lookahead) a as' h))
     (kept_by_actions scene groups vars (after_action scene s a) as' one (All-tail (IsAction groups vars scene.lookahead) a as' h))
 
+-- and so does a rule
 kept_by_rule : (scene : Scene) (groups vars : ℕ) (on : Trigger) (s : State) (r : Rule) → 1 ≤ scene.lookahead → IsRule groups vars scene.lookahead r → Kept groups scene.time s (after_rule scene on s r)
 kept_by_rule scene groups vars on s r one h =
     elim (same_trigger r.on on && conditions_hold scene s.vars r.conds) as (λ b. Kept groups scene.time s (cond b (after_actions scene s r.actions) s))
     [ true ↦ kept_by_actions scene groups vars s r.actions one h.actions | false ↦ kept_none groups scene.time s ]
 
+-- and so do several
 kept_by_rules : (scene : Scene) (groups vars : ℕ) (on : Trigger) (s : State) (rs : List Rule) → 1 ≤ scene.lookahead → All (IsRule groups vars scene.lookahead) rs → Kept groups scene.time s (after_rules scene on s rs)
 kept_by_rules scene groups vars on s [] one h = kept_none groups scene.time s
 kept_by_rules scene groups vars on s (r ∷ rs) one h =
     kept_more groups scene.time _ _ _ (kept_by_rule scene groups vars on s r one (All-head (IsRule groups vars scene.lookahead) r rs h))
     (kept_by_rules scene groups vars on (after_rule scene on s r) rs one (All-tail (IsRule groups vars scene.lookahead) r rs h))
 
+-- the rule step of a federation keeps it
 pub kept_by_step : (p : Parts) (i : ℕ) (on : Trigger) (now value : ℕ) (s : State) → IsFederation p → i < length p.federates → Kept (length p.groups) now s (stepped p i on now value s)
 kept_by_step p i on now value s h lt =
     let f = h.federates.each i nobody lt in

@@ -6,3 +6,4 @@ pub mod Steps
 pub mod Fitness
 pub mod Opening
 pub mod Masks
+pub mod TakenBack

@@ -3,6 +3,7 @@ use Rattle.std.proofs.Common.{◌≡◌, ℕ, suc, ◌+◌, ◌-◌, ◌<◌, Li
 use Rattle.std.proofs.Math.Seq.{set-append_seam}
 use Rattle.std.proofs.lemmas.List.{take_more, length-take, length-map, map-append, append_assoc}
 
+-- one more value in the place of a 0
 pub put_value : {X : Type 0} (f : X → ℕ) (xs : List X) (i : ℕ) (x : X) → i < length xs → i < 8 → x ≡ get_or xs i x
     → set (map f (take i xs) ++ replicate (8 - i) 0) i (f x) ≡ map f (take (i + 1) xs) ++ replicate (8 - (i + 1)) 0
 put_value f xs i x h few is =

@@ -18,15 +18,18 @@ pub past_from_here : (scene : Scene) (s : State) (as' : List Action) (i n : ℕ)
 past_from_here scene s as' i n d h past =
     rw (drop-cons as' i d h) (omega (arith, past, next_grows scene (after_action scene s (get_or as' i d)) (drop (suc i) as')))
 
+-- nor by a rule
 pub next_grows_by_rule : (scene : Scene) (on : Trigger) (s : State) (r : Rule) → s.next ≤ (after_rule scene on s r).next
 next_grows_by_rule scene on s r =
     elim (same_trigger r.on on && conditions_hold scene s.vars r.conds) as (λ b. s.next ≤ (cond b (after_actions scene s r.actions) s).next)
     [ true ↦ next_grows scene s r.actions | false ↦ omega arith ]
 
+-- nor by several
 pub next_grows_by_rules : (scene : Scene) (on : Trigger) (s : State) (rs : List Rule) → s.next ≤ (after_rules scene on s rs).next
 next_grows_by_rules scene on s [] = omega arith
 next_grows_by_rules scene on s (r ∷ rs) = omega (arith, next_grows_by_rule scene on s r, next_grows_by_rules scene on (after_rule scene on s r) rs)
 
+-- and the same of a rule
 pub past_from_rule : (scene : Scene) (on : Trigger) (s : State) (rs : List Rule) (i n : ℕ) (r : Rule) → i < length rs → r ≡ get_or rs i r → n < (after_rule scene on s r).next → n < (after_rules scene on s (drop i rs)).next
 past_from_rule scene on s rs i n r h is past =
     rw (drop-cons rs i r h, ← is) (omega (arith, past, next_grows_by_rules scene on (after_rule scene on s r) (drop (suc i) rs)))
@@ -37,11 +40,13 @@ counted_by_actions scene s [] h = h
 counted_by_actions scene s (a ∷ as') h =
     counted_by_actions scene (after_action scene s a) as' (omega (arith, h, length-append s.sends (option_to_list (message_of scene s a))))
 
+-- and so by a rule
 pub counted_by_rule : (scene : Scene) (on : Trigger) (s : State) (r : Rule) → s.next ≡ length s.sends + 1 → (after_rule scene on s r).next ≡ length (after_rule scene on s r).sends + 1
 counted_by_rule scene on s r h =
     elim (same_trigger r.on on && conditions_hold scene s.vars r.conds) as (λ b. (cond b (after_actions scene s r.actions) s).next ≡ length (cond b (after_actions scene s r.actions) s).sends + 1)
     [ true ↦ counted_by_actions scene s r.actions h | false ↦ h ]
 
+-- and so by several
 pub counted_by_rules : (scene : Scene) (on : Trigger) (s : State) (rs : List Rule) → s.next ≡ length s.sends + 1 → (after_rules scene on s rs).next ≡ length (after_rules scene on s rs).sends + 1
 counted_by_rules scene on s [] h = h
 counted_by_rules scene on s (r ∷ rs) h = counted_by_rules scene on (after_rule scene on s r) rs (counted_by_rule scene on s r h)

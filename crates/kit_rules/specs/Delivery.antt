@@ -1,5 +1,5 @@
 -- Who receives a message, which messages are pending, and when a request is due.
-use Rattle.std.specs.Prelude.{ℕ, ◌-◌, ◌/◌, ◌%◌, ◌^◌, ◌==◌, nat_le, min, Bool, ◌&&◌, not, if◌then◌else◌, List, [], ◌∷◌, filter, fold}
+use Rattle.std.specs.Prelude.{ℕ, ◌-◌, ◌/◌, ◌%◌, ◌^◌, ◌==◌, nat_le, min, Bool, ◌&&◌, not, if◌then◌else◌, List, filter, fold}
 use Rattle.std.specs.List.{list_any}
 use Rattle.kit_base.specs.declared.message.Message.{Message}
 use Rattle.kit_base.specs.Order.{in_order}
@@ -28,6 +28,7 @@ is_transported p m = nat_le m.time p.end && not (receivers_of p m.sender m.group
 abbrev pub retracts : Message → Message → Bool
 retracts m r = not (is_event r.kind) && r.sender == m.sender && r.value == m.number
 
+-- whether two messages are one, by time, sender and number
 abbrev pub is_same : Message → Message → Bool
 is_same m x = x.time == m.time && x.sender == m.sender && x.number == m.number
 
@@ -35,6 +36,7 @@ is_same m x = x.time == m.time && x.sender == m.sender && x.number == m.number
 abbrev pub is_pending : Parts → ℕ → List Message → List Message → Message → Bool
 is_pending p i got sent m = is_event m.kind && is_transported p m && has_bit (receivers_of p m.sender m.group) i && not (list_any (is_same m) got) && not (list_any (retracts m) sent)
 
+-- the pending Events of federate i, of those that were sent
 abbrev pub pending : Parts → ℕ → List Message → List Message → List Message
 pending p i got sent = filter (is_pending p i got sent) sent
 

@@ -1,5 +1,5 @@
 -- When the parts make a federation.
-use Rattle.std.specs.Prelude.{◌≡◌, ◌≢◌, ◌⊎◌, ℕ, ◌<◌, ◌≤◌, ◌^◌, List, length, Option, Some, None, IfSome, All, AllPairs}
+use Rattle.std.specs.Prelude.{◌≡◌, ◌≢◌, ◌⊎◌, ℕ, ◌<◌, ◌≤◌, ◌^◌, List, length, IfSome, All, AllPairs}
 use Rattle.kit_rules.specs.declared.table.Wish.{Wish}
 use Rattle.kit_rules.specs.declared.table.Wish.TheVariants as wish
 use Rattle.kit_rules.specs.declared.table.Operand.{Operand}
@@ -19,14 +19,17 @@ use Rattle.kit_rules.specs.Parts.{Parts}
 abbrev pub IsNameByte : ℕ → Type 0
 IsNameByte b = ((97 ≤ b) × (b ≤ 122)) ⊎ ((65 ≤ b) × (b ≤ 90)) ⊎ ((48 ≤ b) × (b ≤ 57)) ⊎ (b ≡ 95) ⊎ (b ≡ 45)
 
+-- 1 to 16 such bytes
 pub record IsName (name : List ℕ) : Type 0 where
   pub some : 1 ≤ length name
   pub short : length name ≤ 16
   pub bytes : All IsNameByte name
 
+-- a step in time, or a lookahead
 abbrev pub IsStep : ℕ → Type 0
 IsStep n = (1 ≤ n) × (n ≤ 100000)
 
+-- a wish for such a step
 abbrev pub IsWish : Wish → Type 0
 IsWish (wish.Tar step) = IsStep step
 IsWish (wish.Ner step) = IsStep step
@@ -38,11 +41,13 @@ IsOperand vars (operand.Var v) = v < vars
 IsOperand vars operand.Now = Unit {0}
 IsOperand vars operand.Value = Unit {0}
 
+-- a trigger where there are so many groups
 abbrev pub IsTrigger : ℕ → Trigger → Type 0
 IsTrigger groups trigger.Start = Unit {0}
 IsTrigger groups trigger.Grant = Unit {0}
 IsTrigger groups (trigger.Got group) = group < groups
 
+-- a condition of a federate with so many variables
 abbrev pub IsCond : ℕ → Cond → Type 0
 IsCond vars c = IsOperand vars c.left × IsOperand vars c.right
 
@@ -56,6 +61,7 @@ IsAction groups vars lookahead (action.Retract v) = v < vars
 IsAction groups vars lookahead (action.Tar step) = IsStep step
 IsAction groups vars lookahead (action.Ner step) = IsStep step
 
+-- a rule of a federate with so many variables and this lookahead, where there are so many groups
 pub record IsRule (groups vars lookahead : ℕ) (r : Rule) : Type 0 where
   pub on : IsTrigger groups r.on
   pub few_conds : length r.conds ≤ 8
@@ -63,11 +69,13 @@ pub record IsRule (groups vars lookahead : ℕ) (r : Rule) : Type 0 where
   pub few_actions : length r.actions ≤ 16
   pub actions : All (IsAction groups vars lookahead) r.actions
 
+-- the variables of a federate
 pub record AreVars (vars : List Var) : Type 0 where
   pub few : length vars ≤ 8
   pub names : All (λ (v : Var). IsName v.name) vars
   pub differ : AllPairs (λ (a b : Var). a.name ≢ b.name) vars
 
+-- a federate, where there are so many groups
 pub record IsFederate (groups : ℕ) (f : Federate) : Type 0 where
   pub name : IsName f.name
   pub lookahead : IsStep f.lookahead
@@ -76,20 +84,24 @@ pub record IsFederate (groups : ℕ) (f : Federate) : Type 0 where
   pub few_rules : length f.rules ≤ 64
   pub rules : All (IsRule groups (length f.vars) f.lookahead) f.rules
 
+-- a group of so many federates
 pub record IsGroup (federates : ℕ) (g : Group) : Type 0 where
   pub name : IsName g.name
   pub members : g.members < 2 ^ federates
 
+-- the groups of so many federates
 pub record AreGroups (federates : ℕ) (groups : List Group) : Type 0 where
   pub few : length groups ≤ 32
   pub each : All (IsGroup federates) groups
   pub differ : AllPairs (λ (a b : Group). a.name ≢ b.name) groups
 
+-- the federates, where there are so many groups
 pub record AreFederates (groups : ℕ) (federates : List Federate) : Type 0 where
   pub count : (1 ≤ length federates) × (length federates ≤ 16)
   pub each : All (IsFederate groups) federates
   pub differ : AllPairs (λ (a b : Federate). a.name ≢ b.name) federates
 
+-- the parts of a federation
 pub record IsFederation (p : Parts) : Type 0 where
   pub end : IsStep p.end
   pub buffers : (1 ≤ p.buffers) × (p.buffers ≤ 64)

@@ -4,6 +4,7 @@ use Rattle.kit_rules.specs.declared.table.Wish.TheVariants.{Tar}
 use Rattle.kit_rules.specs.declared.table.Group.{Group}
 use Rattle.kit_rules.specs.declared.table.Federate.{Federate}
 
+-- end time, buffers for each federate, groups and federates
 pub record Parts : Type 0 where
   pub end : ℕ
   pub buffers : ℕ
@@ -14,11 +15,14 @@ pub record Parts : Type 0 where
 abbrev pub nobody : Federate
 nobody = record { name = []; lookahead = 0; advance = Tar 0; vars = []; rules = [] }
 
+-- the federate of a number
 abbrev pub federate_at : Parts → ℕ → Federate
 federate_at p i = slice_index_or p.federates i nobody
 
+-- what stands for a group past the last
 abbrev pub no_group : Group
 no_group = record { name = []; members = 0 }
 
+-- the group of a number
 abbrev pub group_at : Parts → ℕ → Group
 group_at p g = slice_index_or p.groups g no_group

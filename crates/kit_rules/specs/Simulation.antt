@@ -34,6 +34,7 @@ pub record World : Type 0 where
   pub messages : List Message
   pub blocks : List Block
 
+-- a world of these parts
 abbrev pub world : List Seat → List Message → List Block → World
 world seats messages blocks = record { seats = seats; messages = messages; blocks = blocks }
 
@@ -54,6 +55,7 @@ started p =
     let seats = map (started_seat p) (range_with_len 0 (length p.federates)) in
     record { seats = seats; messages = flat_map (λ (s : Seat). s.state.sends) seats; blocks = [] }
 
+-- the due time of a federate
 abbrev pub seat_due : Parts → List Message → ℕ → Seat → ℕ
 seat_due p sent i s = due_time s.request (pending p i s.got sent)
 
@@ -62,13 +64,16 @@ abbrev pub waiting_from : Parts → List Message → ℕ → List Seat → List 
 waiting_from p sent i [] = []
 waiting_from p sent i (s ∷ ss) = if nat_lt s.now p.end then (seat_due p sent i s, i) ∷ waiting_from p sent (i + 1) ss else waiting_from p sent (i + 1) ss
 
+-- whether a pair of due time and federate is less than another
 abbrev pub is_sooner : ℕ × ℕ → ℕ × ℕ → Bool
 is_sooner a b = nat_lt a.0 b.0 || (a.0 == b.0 && nat_lt a.1 b.1)
 
+-- the less of two pairs
 abbrev pub sooner : Option (ℕ × ℕ) → ℕ × ℕ → ℕ × ℕ
 sooner None b = b
 sooner (Some a) b = if is_sooner b a then b else a
 
+-- the least of the pairs and one that is known
 abbrev pub least : Option (ℕ × ℕ) → List (ℕ × ℕ) → Option (ℕ × ℕ)
 least best [] = best
 least best (x ∷ xs) = least (Some (sooner best x)) xs
@@ -97,6 +102,7 @@ granted_seat p i d sent s =
 abbrev pub block_lines : Block → List Line
 block_lines b = map (line.Deliver b.time b.federate) b.delivered ++ line.Grant b.time b.federate ∷ []
 
+-- the lines of the grants, in order
 abbrev pub lines_of : List Block → List Line
 lines_of blocks = flat_map block_lines blocks
 
@@ -104,9 +110,11 @@ lines_of blocks = flat_map block_lines blocks
 abbrev pub block : ℕ → ℕ → List Message → Block
 block i d due = record { time = d; federate = i; delivered = due }
 
+-- what stands for a federate past the last
 abbrev pub nobody_seated : Seat
 nobody_seated = record { now = 0; request = request.Tar 0; state = record { vars = []; wish = wish.Tar 0; next = 1; sends = [] }; got = [] }
 
+-- the federate of a number in the simulation
 abbrev pub seat_at : World → ℕ → Seat
 seat_at w i = slice_index_or w.seats i nobody_seated
 
@@ -121,6 +129,7 @@ granted p w g =
     let new = granted_at p w g in
     record { seats = slice_set w.seats g.1 new; messages = w.messages ++ drop (length old.state.sends) new.state.sends; blocks = w.blocks ++ block g.1 g.0 (due_messages p g.1 g.0 old.got w.messages) ∷ [] }
 
+-- the world after a grant, if there is one
 abbrev pub granted_or_same : Parts → World → Option (ℕ × ℕ) → World
 granted_or_same p w None = w
 granted_or_same p w (Some g) = granted p w g
@@ -129,6 +138,7 @@ granted_or_same p w (Some g) = granted p w g
 abbrev pub advanced : Parts → World → World
 advanced p w = granted_or_same p w (next_grant p w)
 
+-- the world after so many grants
 abbrev pub after_grants : Parts → ℕ → World → World
 after_grants p zero w = w
 after_grants p (suc n) w = after_grants p n (advanced p w)

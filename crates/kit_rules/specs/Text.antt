@@ -28,6 +28,7 @@ vars_text [] values = []
 vars_text (v ∷ vs) [] = []
 vars_text (v ∷ vs) (x ∷ xs) = codes " " ++ v.name ++ codes "=" ++ decimal x ++ vars_text vs xs
 
+-- a federate with its closing variables
 abbrev pub closing_text : Federate → List ℕ → List ℕ
 closing_text f values = codes "end " ++ f.name ++ vars_text f.vars values ++ codes "\n"
 
@@ -37,6 +38,7 @@ closings_text [] vars = []
 closings_text (f ∷ fs) [] = []
 closings_text (f ∷ fs) (v ∷ vs) = closing_text f v ++ closings_text fs vs
 
+-- the text of a history: its lines, and then the closing variables
 abbrev pub history_text : Parts → List Line → List (List ℕ) → List ℕ
 history_text p lines vars = flat_map (line_text p) lines ++ closings_text p.federates vars
 

@@ -6,7 +6,7 @@ ghost use Rattle.kit_rules.specs.Delivery.{has_bit, without, receivers_of, is_tr
 use crate::Federation;
 use kit_base::Message;
 
-/// Whether a mask of federates has the bit of federate `j`; bit `j` stands for federate `j`.
+/// Whether a mask of federates has federate `j`, for which bit `j` stands.
 pub fn is_member(mask: u16, j: u8) -> bool
     requires { j < 16 }
     ensures { result ≡ has_bit mask j }

@@ -1,17 +1,23 @@
-ghost use Rattle.std.specs.Prelude.{◌≡◌, ◌<◌, ◌≤◌, ◌+◌, ◌++◌, length, take, drop, OnOk, OnErr, All};
-ghost use Rattle.kit_rules.specs.Parts.{Parts, federate_at};
-ghost use Rattle.kit_rules.specs.Step.{after_rules, CanRun, opening_state, opening_vars};
+ghost use Rattle.std.specs.Prelude.{◌≡◌, ℕ, true, false, ◌<◌, ◌≤◌, ◌+◌, [], ◌∷◌, ◌++◌, length, take, drop, slice_index, slice_set, OnOk, OnErr, All};
+ghost use Rattle.std.specs.List.{list_any};
+ghost use Rattle.kit_rules.specs.Parts.{federate_at};
+ghost use Rattle.kit_rules.specs.Step.{is_event, takes_back, after_action, after_rules, CanRun, opening_state, opening_vars};
 
+use crate::marks::target;
 use crate::running::apply_rules;
-use crate::{ApplyEnd, Federation, Rule, Scene, State, Trigger, Var, Wish};
-use kit_base::{Items, Message};
+use crate::{Action, ApplyEnd, Federation, Rule, Scene, State, Trigger, Var, Wish};
+use kit_base::{Items, Kind, Message};
 use std::alloc::Global;
 use std::marker::Model;
 
-/// The state of a federate: its variables, wish, next number and sends.
+/// The state of a federate, which contracts see as a [`State`]: its variables, wish, next number and
+/// sends. Send `k`, counted from 0, has number `k + 1`.
 #[derive(Debug, Drop)]
 pub struct FedState {
     state: State,
+    /// For the number of each send, at its place, the number of the Retraction that names it. Where
+    /// none does a mark may be any number, so a refused step need not be undone here.
+    marks: Vec<u16>,
 }
 
 impl Model for FedState {
@@ -21,13 +27,14 @@ impl Model for FedState {
 
     ghost view = { λ s. s.state };
 
-    ghost use Rattle.kit_rules.specs.Step.{IsCounted};
+    ghost use Rattle.kit_rules.specs.Step.{IsCounted, AreMarked};
 
-    ghost invariant = { λ s. IsCounted s.state };
+    ghost invariant = { λ s. IsCounted s.state × AreMarked s.state.sends s.marks.items };
 }
 
 impl FedState {
-    /// The state before anything ran.
+    /// The state before anything ran: the variables and the wish of the table, and no sends. It takes
+    /// no memory.
     pub fn new(alloc: Global, federation: &Federation, federate: u8) -> FedState
         requires { federate < length federation.now.federates }
         ensures { result ≡ opening_state (federate_at federation.now federate) }
@@ -40,21 +47,25 @@ impl FedState {
                 next: 1,
                 sends: Items::new(alloc),
             },
+            marks: Vec::new(alloc),
         }
     }
 
+    /// The values of the variables, in the order of the table, and 0 in the places that are left.
     pub fn vars(&self) -> [u32; 8]
         ensures { result ≡ self.now.vars }
     {
         self.state.vars
     }
 
+    /// How the federate asks to advance.
     pub fn wish(&self) -> Wish
         ensures { result ≡ self.now.wish }
     {
         self.state.wish
     }
 
+    /// The number that the next message gets: one more than were sent.
     pub fn next(&self) -> u16
         ensures next { result ≡ self.now.next }
         ensures counted { self.now.next ≡ length self.now.sends + 1 }
@@ -63,6 +74,86 @@ impl FedState {
         self.state.next
     }
 
+    /// All that was sent, in the order of the numbers.
+    pub(crate) fn sends(&self) -> &[Message]
+        ensures { result.now ≡ self.now.sends }
+    {
+        self.state.sends.as_slice()
+    }
+
+    /// Gives a variable a value.
+    pub(crate) fn set_var(&mut self, var: u8, value: u32)
+        requires { var < 8 }
+        ensures { self.new ≡ record self.old { vars = slice_set self.old.vars var value } }
+    {
+        self.state.vars[var as usize] = value;
+    }
+
+    /// Says how to ask for time from now on.
+    pub(crate) fn set_wish(&mut self, wish: Wish)
+        ensures { self.new ≡ record self.old { wish = wish } }
+    {
+        self.state.wish = wish;
+    }
+
+    /// Adds an Event under the next number.
+    pub(crate) fn add_event(&mut self, message: Message) -> Result<(), ApplyEnd>
+        requires event { is_event message.kind ≡ true }
+        requires number { message.number ≡ self.old.next }
+        ensures ok { OnOk result (self.new ≡ record self.old { next = self.old.next + 1; sends = self.old.sends ++ message ∷ [] }) }
+        ensures err { OnErr result (self.new ≡ self.old) }
+        ensures spent { result ≡ Err ApplyEnd.SendsSpent → 16384 < self.old.next }
+        ensures room { OnOk result (self.old.next ≤ 16384) }
+    {
+        emit(&mut self.state, &mut self.marks, message)?;
+        Ok(())
+    }
+
+    /// Adds a Retraction under the next number, and marks the number that it names.
+    fn add_retraction(&mut self, message: Message) -> Result<(), ApplyEnd>
+        requires number { message.number ≡ self.old.next }
+        requires low { 1 ≤ message.value }
+        requires high { message.value ≤ length self.old.sends }
+        requires first { list_any (takes_back message.value) self.old.sends ≡ false }
+        ensures ok { OnOk result (self.new ≡ record self.old { next = self.old.next + 1; sends = self.old.sends ++ message ∷ [] }) }
+        ensures err { OnErr result (self.new ≡ self.old) }
+        ensures spent { result ≡ Err ApplyEnd.SendsSpent → 16384 < self.old.next }
+        ensures room { OnOk result (self.old.next ≤ 16384) }
+    {
+        emit(&mut self.state, &mut self.marks, message)?;
+        self.marks[message.value as usize - 1] = message.number;
+        Ok(())
+    }
+
+    /// Takes back the own Event whose number a variable has, where that may still be done.
+    pub(crate) fn retract(&mut self, scene: &Scene, var: u8) -> Result<(), ApplyEnd>
+        requires time { scene.now.time ≤ 100000 }
+        requires fits { var < 8 }
+        ensures ok { OnOk result (self.new ≡ after_action scene.now self.old (Action.Retract var)) }
+        ensures err { OnErr result (self.new ≡ self.old) }
+        ensures spent { result ≡ Err ApplyEnd.SendsSpent → 16385 < (after_action scene.now self.old (Action.Retract var)).next }
+        ensures room { OnOk result (self.old.next ≤ 16385 → self.new.next ≤ 16385) }
+    {
+        let number = self.state.vars[var as usize];
+        match target(
+            scene,
+            self.state.sends.as_slice(),
+            self.marks.as_slice(),
+            number,
+        ) {
+            None => Ok(()),
+            Some(m) => self.add_retraction(Message {
+                time: m.time,
+                sender: scene.sender,
+                number: self.state.next,
+                kind: Kind::Retraction,
+                group: m.group,
+                value: m.number as u32,
+            }),
+        }
+    }
+
+    /// Runs the rules of a trigger and adds what they send to `sends`, or leaves both as they were.
     pub(crate) fn run(
         &mut self,
         scene: &Scene,
@@ -83,7 +174,7 @@ impl FedState {
         let wish = self.state.wish;
         let next = self.state.next;
         let kept = self.state.sends.len();
-        match run_rules(scene, on, &mut self.state, rules, kept, sends) {
+        match run_rules(scene, on, self, rules, kept, sends) {
             Ok(()) => Ok(()),
             Err(end) => {
                 self.state.vars = vars;
@@ -96,10 +187,33 @@ impl FedState {
     }
 }
 
+/// Adds a message if a number is left, and sees that there is a mark for its number.
+fn emit(state: &mut State, marks: &mut Vec<u16>, message: Message) -> Result<(), ApplyEnd>
+    requires { length state.old.sends ≤ length marks.old.items }
+    ensures ok { OnOk result (state.new ≡ record state.old { next = state.old.next + 1; sends = state.old.sends ++ message ∷ [] }) }
+    ensures err { OnErr result (state.new ≡ state.old) }
+    ensures longer { length marks.old.items ≤ length marks.new.items }
+    ensures marked { OnOk result (length state.new.sends ≤ length marks.new.items) }
+    ensures same { (k : ℕ) → slice_index marks.new.items k ≡ slice_index marks.old.items k }
+    ensures spent { result ≡ Err ApplyEnd.SendsSpent → 16384 < state.old.next }
+    ensures room { OnOk result (state.old.next ≤ 16384) }
+{
+    if state.next > 16_384 {
+        return Err(ApplyEnd::SendsSpent);
+    }
+    if marks.len() == state.sends.len() {
+        marks.push(0)?;
+    }
+    state.sends.push(message)?;
+    state.next += 1;
+    Ok(())
+}
+
+/// Runs the rules of a trigger and adds what they send, beyond the sends that are kept, to `sends`.
 fn run_rules(
     scene: &Scene,
     on: Trigger,
-    state: &mut State,
+    state: &mut FedState,
     rules: &[Rule],
     kept: usize,
     sends: &mut Vec<Message>,
@@ -116,10 +230,11 @@ fn run_rules(
     ensures room { OnOk result (state.new.next ≤ 16385) }
 {
     apply_rules(scene, on, state, rules)?;
-    sends.extend_from_slice(&state.sends.as_slice()[kept..])?;
+    sends.extend_from_slice(&state.sends()[kept..])?;
     Ok(())
 }
 
+/// The values of the variables before anything ran, and 0 in the places that are left.
 fn opening_values(vars: &[Var]) -> [u32; 8]
     requires { length vars.now ≤ 8 }
     ensures { result ≡ opening_vars vars.now }

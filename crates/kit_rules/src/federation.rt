@@ -6,7 +6,8 @@ use crate::{Federate, Group};
 use kit_base::Items;
 use std::marker::Model;
 
-/// A federation that keeps its limits.
+/// A federation, which keeps the limits that [`obeys`](crate::obeys) tests, as [`Federation::new`]
+/// lists them. Its federates and groups go by their numbers, their places in the lists from 0 on.
 #[derive(Debug, Drop)]
 pub struct Federation {
     end: u64,
@@ -28,6 +29,15 @@ impl Model for Federation {
 }
 
 impl Federation {
+    /// The federation with these parts, which have to keep the limits.
+    ///
+    /// - The end time is from 1 to 100,000, and each federate has from 1 to 64 buffers.
+    /// - There are 1 to 16 federates and 0 to 32 groups. A federate has 0 to 8 variables and 0 to 64
+    ///   rules, and a rule 0 to 8 conditions and 0 to 16 actions.
+    /// - A name has 1 to 16 ASCII letters, digits, `_` and `-`. The names of the federates differ from
+    ///   each other, and so do those of the groups, and those of a federate's variables.
+    /// - Lookahead and steps are from 1 to 100,000, and a delay from the sender's lookahead to 100,000.
+    /// - The members of a group are federates, and rules name variables and groups that are there.
     pub fn new(
         end: u64,
         buffers: u16,
@@ -45,12 +55,22 @@ impl Federation {
         }
     }
 
+    /// The end time, in logical time, at which each federate's last grant comes.
     pub fn end(&self) -> u64
         ensures value { result ≡ self.now.end }
         ensures low { 1 ≤ result }
         ensures high { result ≤ 100000 }
     {
         self.end
+    }
+
+    /// How many buffers each federate has.
+    pub fn buffers(&self) -> u16
+        ensures value { result ≡ self.now.buffers }
+        ensures low { 1 ≤ result }
+        ensures high { result ≤ 64 }
+    {
+        self.buffers
     }
 
     /// How many federates there are.
@@ -63,6 +83,7 @@ impl Federation {
         self.federates.len() as u8
     }
 
+    /// The federates, in the order of their numbers.
     pub fn federates(&self) -> &[Federate]
         ensures items { result.now ≡ self.now.federates }
         ensures sound { IsFederation self.now }
@@ -70,6 +91,7 @@ impl Federation {
         self.federates.as_slice()
     }
 
+    /// The federate of a number.
     pub fn federate(&self, i: u8) -> &Federate
         requires { i < length self.now.federates }
         ensures value { result.now ≡ federate_at self.now i }
@@ -78,6 +100,7 @@ impl Federation {
         &self.federates.as_slice()[i as usize]
     }
 
+    /// The group of a number.
     pub fn group(&self, g: u8) -> &Group
         requires { g < length self.now.groups }
         ensures { result.now ≡ group_at self.now g }
@@ -85,6 +108,7 @@ impl Federation {
         &self.groups.as_slice()[g as usize]
     }
 
+    /// The groups, in the order of their numbers.
     pub fn groups(&self) -> &[Group]
         ensures { result.now ≡ self.now.groups }
     {

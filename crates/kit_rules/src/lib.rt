@@ -6,10 +6,13 @@ mod delivery;
 mod fed_state;
 mod federation;
 mod limits;
+mod marks;
 mod name;
 mod running;
 mod scene;
 mod table;
+#[cfg(test)]
+mod tests;
 
 pub use delivery::{is_member, receivers, transported};
 pub use fed_state::FedState;

@@ -1,4 +1,4 @@
-ghost use Rattle.std.specs.Prelude.{◌≡◌, ◌≢◌, ◌↔◌, ◌<◌, ◌≤◌, ◌^◌, List, ℕ, IsTrue, IfSome, All, AllPairs, length};
+ghost use Rattle.std.specs.Prelude.{◌≡◌, ◌≢◌, ◌↔◌, ◌<◌, ◌≤◌, List, ℕ, IsTrue, IfSome, All, AllPairs, length};
 ghost use Rattle.kit_rules.specs.Federation.{IsFederation, IsNameByte, IsName, IsStep, IsWish, IsOperand, IsTrigger, IsCond, IsAction, IsRule, IsFederate, IsGroup, AreVars, AreGroups, AreFederates};
 
 use crate::{Action, Cond, Federate, Group, Name, Operand, Rule, Trigger, Var, Wish};
@@ -103,10 +103,11 @@ fn is_rule(groups: usize, vars: usize, lookahead: u32, rule: &Rule) -> bool
             .all(|a| is_action(groups, vars, lookahead, *a))
 }
 
-/// What has a name.
+/// What has a name, which differs from those of its like.
 pub trait Named {
     ghost name_of: { Self → List ℕ };
 
+    /// The name.
     fn name(&self) -> &Name
         ensures { result.now ≡ name_of self.now };
 }
@@ -217,6 +218,18 @@ fn are_federates(groups: usize, federates: &[Federate]) -> bool
 }
 
 /// Whether the parts make a federation.
+///
+/// That is where each of these holds:
+///
+/// - The end time is from 1 to 100,000, and each federate has from 1 to 64 buffers.
+/// - There are 1 to 16 federates and 0 to 32 groups. A federate has 0 to 8 variables and 0 to 64
+///   rules, and a rule 0 to 8 conditions and 0 to 16 actions.
+/// - A name has 1 to 16 ASCII letters, digits, `_` and `-`. The names of the federates differ from
+///   each other, and so do those of the groups, and those of a federate's variables.
+/// - Lookahead and steps are from 1 to 100,000, and a delay from the sender's lookahead to 100,000.
+/// - The members of a group are federates, and rules name variables and groups that are there.
+///
+/// It takes no memory.
 pub fn obeys(end: u64, buffers: u16, groups: &[Group], federates: &[Federate]) -> bool
     ensures { IsTrue result ↔ IsFederation (record { end = end; buffers = buffers; groups = groups.now; federates = federates.now }) }
 {

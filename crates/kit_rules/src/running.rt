@@ -1,12 +1,13 @@
-ghost use Rattle.std.specs.Prelude.{◌≡◌, ◌<◌, ◌≤◌, ◌+◌, ◌^◌, [], ◌∷◌, ◌++◌, length, take, drop, OnOk, OnErr, All};
+ghost use Rattle.std.specs.Prelude.{◌≡◌, ◌<◌, ◌≤◌, ◌++◌, length, take, drop, OnOk, OnErr, All};
 ghost use Rattle.kit_rules.specs.Federation.{IsAction};
-ghost use Rattle.kit_rules.specs.Step.{after_actions, after_rule, after_rules, same_trigger, IsCounted, CanRun, stepped};
+ghost use Rattle.kit_rules.specs.Step.{after_actions, after_rule, after_rules, same_trigger, CanRun, stepped};
 
 use crate::act::{act, are_met};
-use crate::{Action, ApplyEnd, FedState, Federation, Rule, Scene, State, Trigger};
+use crate::{Action, ApplyEnd, FedState, Federation, Rule, Scene, Trigger};
 use kit_base::Message;
 
-fn act_all(scene: &Scene, state: &mut State, actions: &[Action]) -> Result<(), ApplyEnd>
+/// Does the actions of a rule, in order.
+fn act_all(scene: &Scene, state: &mut FedState, actions: &[Action]) -> Result<(), ApplyEnd>
     requires time { scene.now.time ≤ 100000 }
     requires fits { All (IsAction 256 8 scene.now.lookahead) actions.now }
     requires room { state.old.next ≤ 16385 }
@@ -21,7 +22,8 @@ fn act_all(scene: &Scene, state: &mut State, actions: &[Action]) -> Result<(), A
     Ok(())
 }
 
-fn apply_rule(scene: &Scene, on: Trigger, state: &mut State, rule: &Rule) -> Result<(), ApplyEnd>
+/// Does what a rule says, where its trigger is this one and its conditions hold.
+fn apply_rule(scene: &Scene, on: Trigger, state: &mut FedState, rule: &Rule) -> Result<(), ApplyEnd>
     requires time { scene.now.time ≤ 100000 }
     requires rule { CanRun scene.now.lookahead rule.now }
     requires room { state.old.next ≤ 16385 }
@@ -30,13 +32,14 @@ fn apply_rule(scene: &Scene, on: Trigger, state: &mut State, rule: &Rule) -> Res
     ensures spent { result ≡ Err ApplyEnd.SendsSpent → 16385 < (after_rule scene.now on state.old rule.now).next }
     ensures room { OnOk result (state.new.next ≤ 16385) }
 {
-    if is_same_trigger(rule.on, on) && are_met(scene, &state.vars, rule.conds.as_slice()) {
+    if is_same_trigger(rule.on, on) && are_met(scene, &state.vars(), rule.conds.as_slice()) {
         act_all(scene, state, rule.actions.as_slice())
     } else {
         Ok(())
     }
 }
 
+/// Whether two triggers are the same.
 fn is_same_trigger(a: Trigger, b: Trigger) -> bool
     ensures { result ≡ same_trigger a b }
 {
@@ -47,10 +50,11 @@ fn is_same_trigger(a: Trigger, b: Trigger) -> bool
     }
 }
 
+/// Applies the rules of a trigger, in order.
 pub(crate) fn apply_rules(
     scene: &Scene,
     on: Trigger,
-    state: &mut State,
+    state: &mut FedState,
     rules: &[Rule],
 ) -> Result<(), ApplyEnd>
     requires time { scene.now.time ≤ 100000 }
@@ -67,7 +71,13 @@ pub(crate) fn apply_rules(
     Ok(())
 }
 
-/// Applies the rules of a trigger, in the order of the table.
+/// Applies the rules of a trigger to a federate's state, at its logical time `now`, and adds the messages
+/// that they send to `sends`, in the order of their numbers, transported or not.
+///
+/// The rules go in the order of the table. A rule's conditions are read when its turn comes, and if all
+/// hold its actions are done in order. `value` is that of the message that was delivered, or 0.
+///
+/// A federate has numbers up to 16,384, and a send or Retraction beyond them refuses the whole step.
 pub fn apply(
     federation: &Federation,
     federate: u8,

@@ -5,28 +5,40 @@ use crate::Wish;
 use kit_base::{Items, Message};
 use std::alloc::{AllocError, AllocFailed};
 
-/// Where a rule runs: whose it is, at which time, and with which message's value.
+/// Where a rule runs.
 #[derive(Clone, Copy, Debug)]
 pub struct Scene {
+    /// The federation's end time.
     pub end: u64,
+    /// The federate whose rule it is, by its number.
     pub sender: u8,
+    /// That federate's lookahead, in logical time.
     pub lookahead: u32,
+    /// That federate's logical time.
     pub time: u64,
+    /// The value of the message that was delivered, or 0.
     pub value: u32,
 }
 
-/// What the rules of a federate change.
+/// What the rules of a federate change, as contracts see it in a [`FedState`](crate::FedState).
 #[derive(Debug, Drop)]
 pub struct State {
+    /// The variables, in the order of the table, and 0 in the places that are left.
     pub vars: [u32; 8],
+    /// How the federate asks to advance.
     pub wish: Wish,
+    /// The number that its next message gets, from 1 to 16,385.
     pub next: u16,
+    /// All that it has sent, in the order of their numbers, transported or not.
     pub sends: Items<Message>,
 }
 
+/// Why rules were not applied.
 #[derive(Clone, Copy, Debug, PartialEq, Eq)]
 pub enum ApplyEnd {
+    /// A message would have taken number 16,385.
     SendsSpent,
+    /// There was no memory.
     NoMemory,
 }
 

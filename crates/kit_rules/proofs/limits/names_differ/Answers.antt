@@ -1,4 +1,4 @@
-use Rattle.std.proofs.Common.{◌≡◌, ◌<◌, ◌+◌, ℕ, length, arith, take, get_or, IsTrue, true, below_more, refl}
+use Rattle.std.proofs.Common.{◌≡◌, ◌<◌, ℕ, arith, get_or, IsTrue, below_more, refl}
 use Rattle.kit_rules.proofs.Names.{fresh_from_pairs, pair_from_fresh}
 use Rattle.kit_rules.proofs.limits.names_differ.Goals as goal
 

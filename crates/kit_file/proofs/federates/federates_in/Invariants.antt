@@ -1,0 +1,14 @@
+use Rattle.std.proofs.Common.{◌≡◌, [], map, length}
+use Rattle.serde_json.specs.View.{view}
+use Rattle.kit_file.specs.Reading.{each}
+use Rattle.kit_file.specs.Federates.{federate_step}
+use Rattle.kit_file.specs.SoFar.{AreFederatesSoFar}
+use Rattle.kit_file.proofs.Rest.{rest}
+use Rattle.kit_file.proofs.federates.federates_in.Given as goal
+
+abbrev pub invariant-loop-i : goal.invariant-loop-i
+invariant-loop-i l = record {
+  so_far : rest (federate_step l.names l.groups) l.i l.done l.items ≡ each (federate_step l.names l.groups) 0 [] (map view l.items);
+  kept : AreFederatesSoFar (length l.groups) l.names l.done;
+  count : length l.done ≡ l.i;
+}

@@ -1,0 +1,16 @@
+pub mod Paths
+pub mod Reading
+pub mod Agreement
+pub mod Places
+pub mod Names
+pub mod SoFar
+pub mod Variables
+pub mod Operands
+pub mod Actions
+pub mod Rules
+pub mod FederateNames
+pub mod Groups
+pub mod Federates
+pub mod Walk
+pub mod Answers
+pub mod FirstForm

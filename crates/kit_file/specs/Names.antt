@@ -1,0 +1,61 @@
+-- Names: where one is given, and where one is referred to.
+use Rattle.std.specs.Prelude.{ℕ, List, length, Bool, nat_le, ◌&&◌, ◌||◌, ◌==◌, if◌then◌else◌, Option, Result, Ok}
+use Rattle.std.specs.List.{list_any, list_all, position}
+use Rattle.serde_json.specs.Data.{Data}
+use Rattle.kit_rules.specs.declared.table.Var.{Var}
+use Rattle.kit_rules.specs.declared.table.Group.{Group}
+use Rattle.kit_file.specs.declared.fault.FaultKind.TheVariants as kind
+use Rattle.kit_file.specs.declared.fault.Fault.{Fault}
+use Rattle.kit_file.specs.Paths.{key_path}
+use Rattle.kit_file.specs.Reading.{◌>>=◌, refused, required}
+use Rattle.kit_file.specs.Places.{text, is_same}
+
+-- a name, of itself
+abbrev pub itself : List ℕ → List ℕ
+itself s = s
+
+-- the name of a variable
+abbrev pub var_name : Var → List ℕ
+var_name v = v.name
+
+-- the name of a group
+abbrev pub group_name : Group → List ℕ
+group_name g = g.name
+
+-- a letter, a digit, _ or -
+abbrev pub is_name_byte : ℕ → Bool
+is_name_byte b = (nat_le 97 b && nat_le b 122) || (nat_le 65 b && nat_le b 90) || (nat_le 48 b && nat_le b 57) || (b == 95) || (b == 45)
+
+-- 1 to 16 such bytes
+abbrev pub is_name : List ℕ → Bool
+is_name s = nat_le 1 (length s) && nat_le (length s) 16 && list_all is_name_byte s
+
+-- a text of the form of a name
+unfoldable pub name : List ℕ → Data → Result (List ℕ) Fault
+name key d = do
+  s ← text key d
+  if is_name s then Ok s else refused kind.OutOfRange (key_path key)
+
+-- whether the name is that of one of those before
+abbrev pub is_given : {X : Type 0} → (X → List ℕ) → List X → List ℕ → Bool
+is_given name_of done s = list_any (λ x. is_same (name_of x) s) done
+
+-- a name that none before has
+abbrev pub fresh : {X : Type 0} → (X → List ℕ) → List X → List ℕ → List ℕ → Result (List ℕ) Fault
+fresh name_of done key s = if is_given name_of done s then refused kind.Repeated (key_path key) else Ok s
+
+-- a name that is given, where others were given before
+unfoldable pub new_name : {X : Type 0} → (X → List ℕ) → List X → List ℕ → Data → Result (List ℕ) Fault
+new_name name_of done key d = do
+  s ← name key d
+  fresh name_of done key s
+
+-- the index of what a text names
+abbrev pub position_of : {X : Type 0} → (X → List ℕ) → List X → List ℕ → Option ℕ
+position_of name_of xs s = position (λ x. is_same (name_of x) s) xs
+
+-- a name that is referred to, by its index
+unfoldable pub reference : {X : Type 0} → (X → List ℕ) → List X → List ℕ → Data → Result ℕ Fault
+reference name_of xs key d = do
+  s ← text key d
+  required kind.UnknownName (key_path key) (position_of name_of xs s)

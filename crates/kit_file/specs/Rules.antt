@@ -1,0 +1,86 @@
+-- The rules of a federate.
+use Rattle.std.specs.Prelude.{ℕ, List, [], ◌∷◌, ◌++◌, if◌then◌else◌, Option, Some, None, Result, Ok, codes}
+use Rattle.serde_json.specs.Data.{Data}
+use Rattle.serde_json.specs.Find.{get, as_str}
+use Rattle.kit_rules.specs.declared.table.Var.{Var}
+use Rattle.kit_rules.specs.declared.table.Group.{Group}
+use Rattle.kit_rules.specs.declared.table.Compare.{Compare}
+use Rattle.kit_rules.specs.declared.table.Compare.TheVariants as compare
+use Rattle.kit_rules.specs.declared.table.Cond.{Cond}
+use Rattle.kit_rules.specs.declared.table.Trigger.{Trigger}
+use Rattle.kit_rules.specs.declared.table.Trigger.TheVariants as trigger
+use Rattle.kit_rules.specs.declared.table.Rule.{Rule}
+use Rattle.kit_file.specs.declared.fault.FaultKind.TheVariants as kind
+use Rattle.kit_file.specs.declared.fault.Fault.{Fault}
+use Rattle.kit_file.specs.Paths.{key_path, item_path}
+use Rattle.kit_file.specs.Reading.{◌>>=◌, refused, within, required, each}
+use Rattle.kit_file.specs.Places.{object, member, text, is_same, optional_list}
+use Rattle.kit_file.specs.Names.{group_name, reference}
+use Rattle.kit_file.specs.Operands.{operand_of}
+use Rattle.kit_file.specs.Actions.{actions_of}
+
+-- the six comparisons, by name
+unfoldable pub named_comparison : List ℕ → Option Compare
+named_comparison s = if is_same s (codes "lt") then Some compare.Lt else (if is_same s (codes "le") then Some compare.Le else (if is_same s (codes "eq") then Some compare.Eq else (if is_same s (codes "ne") then Some compare.Ne else (if is_same s (codes "ge") then Some compare.Ge else (if is_same s (codes "gt") then Some compare.Gt else None)))))
+
+-- what a condition asks of its two sides
+unfoldable pub comparison_of : Data → Result Compare Fault
+comparison_of d = do
+  s ← text (codes "is") d
+  required kind.UnknownName (key_path (codes "is")) (named_comparison s)
+
+-- a condition: left, is, right
+unfoldable pub cond_of : List Var → Data → Result Cond Fault
+cond_of vars d = do
+  u ← object d
+  left ← operand_of (codes "left") vars d
+  test ← comparison_of d
+  right ← operand_of (codes "right") vars d
+  Ok (record { left = left; test = test; right = right })
+
+-- one more condition, the i-th of the list if
+unfoldable pub cond_step : List Var → ℕ → List Cond → Data → Result (List Cond) Fault
+cond_step vars i done d = within (item_path (codes "if") i) (cond_of vars d) >>= λ c. Ok (done ++ c ∷ [])
+
+-- the list if, which may be absent
+unfoldable pub conds_of : List Var → Data → Result (List Cond) Fault
+conds_of vars d = do
+  ds ← optional_list (codes "if") 8 (get (codes "if") d)
+  each (cond_step vars) 0 [] ds
+
+-- on a message to this group
+unfoldable pub got_of : List Group → Data → Result Trigger Fault
+got_of groups d = do
+  u ← object d
+  g ← reference group_name groups (codes "got") d
+  Ok (trigger.Got g)
+
+-- at the start, on a grant, or on a message
+abbrev pub trigger_from : List Group → Data → Option (List ℕ) → Result Trigger Fault
+trigger_from groups v (Some s) = if is_same s (codes "start") then Ok trigger.Start else (if is_same s (codes "grant") then Ok trigger.Grant else refused kind.UnknownName (key_path (codes "on")))
+trigger_from groups v None = within (key_path (codes "on")) (got_of groups v)
+
+-- when a rule runs
+unfoldable pub trigger_of : List Group → Data → Result Trigger Fault
+trigger_of groups d = do
+  v ← member (codes "on") d
+  trigger_from groups v (as_str v)
+
+-- a rule: on, if, do
+unfoldable pub rule_of : List Group → List Var → ℕ → Data → Result Rule Fault
+rule_of groups vars lookahead d = do
+  u ← object d
+  on ← trigger_of groups d
+  conds ← conds_of vars d
+  actions ← actions_of groups vars lookahead d
+  Ok (record { on = on; conds = conds; actions = actions })
+
+-- one more rule, the i-th of the list rules
+unfoldable pub rule_step : List Group → List Var → ℕ → ℕ → List Rule → Data → Result (List Rule) Fault
+rule_step groups vars lookahead i done d = within (item_path (codes "rules") i) (rule_of groups vars lookahead d) >>= λ r. Ok (done ++ r ∷ [])
+
+-- the list rules, which may be absent
+unfoldable pub rules_of : List Group → List Var → ℕ → Data → Result (List Rule) Fault
+rules_of groups vars lookahead d = do
+  ds ← optional_list (codes "rules") 64 (get (codes "rules") d)
+  each (rule_step groups vars lookahead) 0 [] ds

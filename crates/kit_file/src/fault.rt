@@ -1,0 +1,174 @@
+//! What is wrong with a file, and where.
+
+ghost use Rattle.std.specs.Prelude.{◌≡◌, ◌++◌, [], IfOk, codes};
+ghost use Rattle.std.specs.Fmt.{decimal};
+ghost use Rattle.kit_file.specs.Paths.{key_path, item_path};
+ghost use Rattle.kit_file.specs.declared.fault.WalkEnd.TheVariants.{Memory};
+
+use kit_base::push_decimal;
+use std::alloc::{AllocError, AllocFailed, Global};
+use std::marker::Model;
+
+/// Where in a file, as text: the keys from the root joined by `.`, with `[i]` for the i-th member
+/// of a list, from 0. The path of the root is `.`.
+#[derive(Debug, Drop)]
+pub struct FaultPath {
+    bytes: Vec<u8>,
+}
+
+impl Model for FaultPath {
+    ghost use Rattle.std.specs.Prelude.{List, ℕ};
+
+    ghost Value = { List ℕ };
+
+    ghost view = { λ p. p.bytes.items };
+}
+
+impl FaultPath {
+    /// The text of the path, in UTF-8.
+    pub fn bytes(&self) -> &[u8]
+        ensures { result.now ≡ self.now }
+    {
+        &self.bytes
+    }
+}
+
+/// Why a file gives no federation.
+#[derive(Debug, Drop)]
+pub enum FileFault {
+    /// The bytes are no JSON text.
+    NotJson,
+    /// A key that has to be there is not. The path is the one that it would have.
+    Missing { path: FaultPath },
+    /// A value is of another kind than its place asks for.
+    WrongKind { path: FaultPath },
+    /// A number, the form of a name or the length of a list is outside its range.
+    OutOfRange { path: FaultPath },
+    /// A text names nothing that is known here.
+    UnknownName { path: FaultPath },
+    /// A name stands a second time in the same list.
+    Repeated { path: FaultPath },
+    /// The delay of a send is below the federate's lookahead.
+    SendTooSoon { path: FaultPath },
+    /// Memory ran out.
+    NoMemory,
+}
+
+/// What is wrong at a place.
+#[derive(Clone, Copy, Debug, PartialEq, Eq)]
+pub(crate) enum FaultKind {
+    Missing,
+    WrongKind,
+    OutOfRange,
+    UnknownName,
+    Repeated,
+    SendTooSoon,
+}
+
+/// A fault of the walk. Its path starts at the value that was walked, each key with a point
+/// before it, and is empty where the value itself is at fault.
+#[derive(Debug, Drop)]
+pub(crate) struct Fault {
+    pub kind: FaultKind,
+    pub path: FaultPath,
+}
+
+/// Why a walk ended early.
+#[derive(Debug, Drop)]
+pub(crate) enum WalkEnd {
+    /// Memory ran out.
+    Memory,
+    Fault(Fault),
+}
+
+impl From<AllocError> for WalkEnd {
+    ghost from_gives = { λ _ e. e ≡ Memory };
+
+    fn from(_e: AllocError) -> WalkEnd {
+        WalkEnd::Memory
+    }
+}
+
+impl<T: Drop> From<AllocFailed<T>> for WalkEnd {
+    ghost from_gives = { λ _ e. e ≡ Memory };
+
+    fn from(_e: AllocFailed<T>) -> WalkEnd {
+        WalkEnd::Memory
+    }
+}
+
+impl Fault {
+    ghost use Rattle.kit_file.specs.Answers.{rooted, file_fault};
+
+    /// The fault of this kind at the value itself.
+    pub(crate) fn here(alloc: Global, kind: FaultKind) -> Fault
+        ensures { result ≡ record { kind = kind; path = [] } }
+    {
+        Fault {
+            kind,
+            path: FaultPath {
+                bytes: Vec::new(alloc),
+            },
+        }
+    }
+
+    /// The fault of this kind at a key.
+    pub(crate) fn at_key(alloc: Global, kind: FaultKind, key: &str) -> Result<Fault, AllocError>
+        ensures { IfOk result (λ f. f ≡ record { kind = kind; path = key_path key.now }) }
+    {
+        let mut bytes = Vec::from_slice(alloc, b".")?;
+        bytes.extend_from_slice(key.as_bytes())?;
+        Ok(Fault {
+            kind,
+            path: FaultPath { bytes },
+        })
+    }
+
+    /// The fault, as seen from where a key holds the value.
+    pub(crate) fn under_key(self, alloc: Global, key: &str) -> Result<Fault, AllocError>
+        ensures { IfOk result (λ f. f ≡ record { kind = self.kind; path = key_path key.now ++ self.path }) }
+    {
+        let mut bytes = Vec::from_slice(alloc, b".")?;
+        bytes.extend_from_slice(key.as_bytes())?;
+        bytes.extend_from_slice(&self.path.bytes)?;
+        Ok(Fault {
+            kind: self.kind,
+            path: FaultPath { bytes },
+        })
+    }
+
+    /// The fault, as seen from where the list under a key holds the value.
+    pub(crate) fn under_item(self, alloc: Global, key: &str, i: usize) -> Result<Fault, AllocError>
+        ensures { IfOk result (λ f. f ≡ record { kind = self.kind; path = item_path key.now i ++ self.path }) }
+    {
+        let mut bytes = Vec::from_slice(alloc, b".")?;
+        bytes.extend_from_slice(key.as_bytes())?;
+        bytes.extend_from_slice(b"[")?;
+        push_decimal(&mut bytes, i as u64)?;
+        bytes.extend_from_slice(b"]")?;
+        bytes.extend_from_slice(&self.path.bytes)?;
+        Ok(Fault {
+            kind: self.kind,
+            path: FaultPath { bytes },
+        })
+    }
+
+    /// The fault of the file, where the root was walked.
+    pub(crate) fn of_file(self, alloc: Global) -> Result<FileFault, AllocError>
+        ensures { IfOk result (λ f. f ≡ file_fault self.kind (rooted self.path)) }
+    {
+        let bytes = match self.path.bytes.as_slice() {
+            [] => Vec::from_slice(alloc, b".")?,
+            [_, rest @ ..] => Vec::from_slice(alloc, rest)?,
+        };
+        let path = FaultPath { bytes };
+        Ok(match self.kind {
+            FaultKind::Missing => FileFault::Missing { path },
+            FaultKind::WrongKind => FileFault::WrongKind { path },
+            FaultKind::OutOfRange => FileFault::OutOfRange { path },
+            FaultKind::UnknownName => FileFault::UnknownName { path },
+            FaultKind::Repeated => FileFault::Repeated { path },
+            FaultKind::SendTooSoon => FileFault::SendTooSoon { path },
+        })
+    }
+}

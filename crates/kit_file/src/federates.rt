@@ -1,0 +1,127 @@
+//! The federates in full, once the groups are known.
+
+ghost use Rattle.std.specs.Prelude.{◌≡◌, ◌+◌, IfOk, OnOk, ◌<◌, ◌≤◌, ◌++◌, ◌∷◌, [], codes, map, length, slice_index_or};
+ghost use Rattle.serde_json.specs.View.{view};
+ghost use Rattle.kit_file.specs.Agreement.{Gives};
+ghost use Rattle.kit_file.specs.Reading.{within};
+ghost use Rattle.kit_file.specs.SoFar.{AreNames, AreFederatesSoFar};
+ghost use Rattle.kit_file.specs.Names.{itself};
+ghost use Rattle.kit_file.specs.Federates.{wish_of, advance_of, federate_of, federate_step, federates_of};
+ghost use Rattle.kit_file.specs.Paths.{item_path};
+ghost use Rattle.kit_rules.specs.Federation.{IsName, IsWish, IsFederate, AreFederates};
+
+use crate::fault::{Fault, FaultKind, WalkEnd};
+use crate::places::{member_at, number_at, object_here};
+use crate::rules::rules_in;
+use crate::variables::vars_in;
+use kit_base::Items;
+use kit_rules::{Federate, Group, Name, Wish};
+use serde_json::Value;
+use std::alloc::Global;
+
+#[tactic(auto, unfolding(crate::specs::Federates::wish_of))]
+fn wish_in(alloc: Global, value: &Value) -> Result<Wish, WalkEnd>
+    ensures exact { Gives (λ w. w) result (wish_of (view value.now)) }
+    ensures sound { IfOk result (λ w. IsWish w) }
+{
+    object_here(alloc, value)?;
+    if value.get("tar").is_some() {
+        let step = number_at(alloc, value, "tar", 1, 100_000)?;
+        return Ok(Wish::Tar(step as u32));
+    }
+    if value.get("ner").is_some() {
+        let step = number_at(alloc, value, "ner", 1, 100_000)?;
+        return Ok(Wish::Ner(step as u32));
+    }
+    Err(WalkEnd::Fault(Fault::at_key(alloc, FaultKind::Missing, "tar")?))
+}
+
+#[tactic(auto, unfolding(crate::specs::Federates::advance_of))]
+fn advance_in(alloc: Global, value: &Value) -> Result<Wish, WalkEnd>
+    ensures exact { Gives (λ w. w) result (advance_of (view value.now)) }
+    ensures sound { IfOk result (λ w. IsWish w) }
+{
+    let found = member_at(alloc, value, "advance")?;
+    match wish_in(alloc, found) {
+        Ok(wish) => Ok(wish),
+        Err(WalkEnd::Memory) => Err(WalkEnd::Memory),
+        Err(WalkEnd::Fault(fault)) => Err(WalkEnd::Fault(fault.under_key(alloc, "advance")?)),
+    }
+}
+
+#[tactic(auto, unfolding(crate::specs::Federates::federate_of))]
+fn federate_in(
+    alloc: Global,
+    groups: &[Group],
+    name: &Name,
+    value: &Value,
+) -> Result<Federate, WalkEnd>
+    requires form { IsName name.now }
+    requires few { length groups.now ≤ 32 }
+    ensures exact { Gives (λ f. f) result (federate_of groups.now name.now (view value.now)) }
+    ensures sound { IfOk result (λ f. IsFederate (length groups.now) f) }
+    ensures called { IfOk result (λ f. f.name ≡ name.now) }
+{
+    let lookahead = number_at(alloc, value, "lookahead", 1, 100_000)?;
+    let advance = advance_in(alloc, value)?;
+    let vars = vars_in(alloc, value)?;
+    let rules = rules_in(alloc, groups, vars.as_slice(), lookahead as u32, value)?;
+    Ok(Federate {
+        name: Name::of(alloc, name.bytes())?,
+        lookahead: lookahead as u32,
+        advance,
+        vars,
+        rules,
+    })
+}
+
+#[tactic(auto, using(crate::proofs::Pushes::one_more_federate), unfolding(crate::specs::Federates::federate_step))]
+fn push_federate(
+    alloc: Global,
+    names: &[Name],
+    groups: &[Group],
+    i: usize,
+    done: &mut Items<Federate>,
+    value: &Value,
+) -> Result<(), WalkEnd>
+    requires few { length groups.now ≤ 32 }
+    requires here { i < length names.now }
+    requires given { AreNames itself names.now }
+    requires count { length done.old ≡ i }
+    requires kept { AreFederatesSoFar (length groups.now) names.now done.old }
+    ensures kept { OnOk result (AreFederatesSoFar (length groups.now) names.now done.new) }
+    ensures count { OnOk result (length done.new ≡ length done.old + 1) }
+    ensures exact { Gives (λ _. done.new) result (federate_step names.now groups.now i done.old (view value.now)) }
+{
+    match federate_in(alloc, groups, &names[i], value) {
+        Ok(federate) => {
+            done.push(federate)?;
+            Ok(())
+        }
+        Err(WalkEnd::Memory) => Err(WalkEnd::Memory),
+        Err(WalkEnd::Fault(fault)) => Err(WalkEnd::Fault(fault.under_item(alloc, "federates", i)?)),
+    }
+}
+
+#[tactic(auto, using(crate::proofs::Pushes::no_federates, crate::proofs::Pushes::federates_are), unfolding(crate::specs::Federates::federates_of))]
+pub(crate) fn federates_in(
+    alloc: Global,
+    names: &[Name],
+    groups: &[Group],
+    items: &[Value],
+) -> Result<Items<Federate>, WalkEnd>
+    requires few { length groups.now ≤ 32 }
+    requires count { length names.now ≡ length items.now }
+    requires low { 1 ≤ length names.now }
+    requires high { length names.now ≤ 16 }
+    requires given { AreNames itself names.now }
+    ensures sound { IfOk result (λ v. AreFederates (length groups.now) v) }
+    ensures count { IfOk result (λ v. length v ≡ length names.now) }
+    ensures exact { Gives (λ v. v) result (federates_of names.now groups.now (map view items.now)) }
+{
+    let mut done = Items::new(alloc);
+    for (i, item) in items.iter().enumerate() {
+        push_federate(alloc, names, groups, i, &mut done, item)?;
+    }
+    Ok(done)
+}

@@ -1,0 +1,23 @@
+//! The reader of a federation file: JSON bytes to a federation, or the first fault and its place.
+#![tactic(auto)]
+
+mod actions;
+mod fault;
+mod federate_names;
+mod federates;
+mod first_form;
+mod groups;
+mod names;
+mod operands;
+mod places;
+mod reading;
+mod rules;
+mod sends;
+mod variables;
+
+pub use fault::{FaultPath, FileFault};
+pub use first_form::{FormFault, read_first_form};
+pub use reading::read_federation;
+
+#[cfg(test)]
+mod tests;

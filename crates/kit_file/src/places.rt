@@ -1,0 +1,149 @@
+//! The kinds of places: objects, keys, numbers, texts and lists.
+
+ghost use Rattle.std.specs.Prelude.{◌≡◌, ◌≤◌, map, length, IfOk, IsTrue, All};
+ghost use Rattle.serde_json.specs.View.{view};
+ghost use Rattle.kit_rules.specs.Federation.{IsNameByte, IsName};
+ghost use Rattle.std.specs.List.{list_any, list_all};
+ghost use Rattle.serde_json.specs.Find.{get};
+ghost use Rattle.kit_file.specs.Agreement.{Gives};
+ghost use Rattle.kit_file.specs.Places.{object, member, number, text, list_of, list, optional_list, is_same};
+ghost use Rattle.kit_file.specs.Names.{is_name_byte, is_name};
+
+use crate::fault::{Fault, FaultKind, WalkEnd};
+use serde_json::Value;
+use std::alloc::Global;
+
+#[tactic(auto, unfolding(crate::specs::Places::object))]
+pub(crate) fn object_here(alloc: Global, value: &Value) -> Result<(), WalkEnd>
+    ensures { Gives (λ _. tt) result (object (view value.now)) }
+{
+    if value.is_object() {
+        Ok(())
+    } else {
+        Err(WalkEnd::Fault(Fault::here(alloc, FaultKind::WrongKind)))
+    }
+}
+
+#[tactic(auto, unfolding(crate::specs::Places::member))]
+pub(crate) fn member_at<'v>(
+    alloc: Global,
+    value: &'v Value,
+    key: &str,
+) -> Result<&'v Value, WalkEnd>
+    ensures { Gives (λ v. view v.now) result (member key.now (view value.now)) }
+{
+    match value.get(key) {
+        Some(found) => Ok(found),
+        None => Err(WalkEnd::Fault(Fault::at_key(alloc, FaultKind::Missing, key)?)),
+    }
+}
+
+#[tactic(auto, unfolding(crate::specs::Places::number))]
+pub(crate) fn number_at(
+    alloc: Global,
+    value: &Value,
+    key: &str,
+    low: u64,
+    high: u64,
+) -> Result<u64, WalkEnd>
+    ensures exact { Gives (λ n. n) result (number key.now low high (view value.now)) }
+    ensures range { IfOk result (λ n. (low ≤ n) × (n ≤ high)) }
+{
+    let found = member_at(alloc, value, key)?;
+    let Some(n) = found.as_u64() else {
+        return Err(WalkEnd::Fault(Fault::at_key(alloc, FaultKind::WrongKind, key)?));
+    };
+    if n < low || n > high {
+        return Err(WalkEnd::Fault(Fault::at_key(alloc, FaultKind::OutOfRange, key)?));
+    }
+    Ok(n)
+}
+
+#[tactic(auto, unfolding(crate::specs::Places::text))]
+pub(crate) fn text_at<'v>(alloc: Global, value: &'v Value, key: &str) -> Result<&'v str, WalkEnd>
+    ensures { Gives (λ s. s.now) result (text key.now (view value.now)) }
+{
+    let found = member_at(alloc, value, key)?;
+    match found.as_str() {
+        Some(s) => Ok(s),
+        None => Err(WalkEnd::Fault(Fault::at_key(alloc, FaultKind::WrongKind, key)?)),
+    }
+}
+
+fn is_byte_of_name(b: u8) -> bool
+    ensures value { result ≡ is_name_byte b }
+    ensures form { IsTrue result → IsNameByte b }
+{
+    (97 <= b && b <= 122) || (65 <= b && b <= 90) || (48 <= b && b <= 57) || b == 95 || b == 45
+}
+
+fn are_bytes_of_name(bytes: &[u8]) -> bool
+    ensures value { result ≡ list_all is_name_byte bytes.now }
+    ensures form { IsTrue result → All IsNameByte bytes.now }
+{
+    bytes.iter().all(|b| is_byte_of_name(*b))
+}
+
+pub(crate) fn is_text_a_name(s: &str) -> bool
+    ensures value { result ≡ is_name s.now }
+    ensures form { IsTrue result → IsName s.now }
+{
+    let bytes = s.as_bytes();
+    1 <= bytes.len() && bytes.len() <= 16 && are_bytes_of_name(bytes)
+}
+
+pub(crate) fn are_same(a: &[u8], b: &[u8]) -> bool
+    ensures { result ≡ is_same a.now b.now }
+{
+    a == b
+}
+
+#[tactic(auto, unfolding(crate::specs::Places::list_of), using(crate::proofs::Views::data_of_view, crate::proofs::Views::length_of_view))]
+pub(crate) fn list_in<'v>(
+    alloc: Global,
+    found: &'v Value,
+    key: &str,
+    low: usize,
+    high: usize,
+) -> Result<&'v [Value], WalkEnd>
+    ensures exact { Gives (λ s. map view s.now) result (list_of key.now low high (view found.now)) }
+    ensures range { IfOk result (λ s. (low ≤ length s.now) × (length s.now ≤ high)) }
+{
+    let Some(items) = found.as_array() else {
+        return Err(WalkEnd::Fault(Fault::at_key(alloc, FaultKind::WrongKind, key)?));
+    };
+    if items.len() < low || items.len() > high {
+        return Err(WalkEnd::Fault(Fault::at_key(alloc, FaultKind::OutOfRange, key)?));
+    }
+    Ok(items.as_slice())
+}
+
+#[tactic(auto, unfolding(crate::specs::Places::list))]
+pub(crate) fn list_at<'v>(
+    alloc: Global,
+    value: &'v Value,
+    key: &str,
+    low: usize,
+    high: usize,
+) -> Result<&'v [Value], WalkEnd>
+    ensures exact { Gives (λ s. map view s.now) result (list key.now low high (view value.now)) }
+    ensures range { IfOk result (λ s. (low ≤ length s.now) × (length s.now ≤ high)) }
+{
+    let found = member_at(alloc, value, key)?;
+    list_in(alloc, found, key, low, high)
+}
+
+pub(crate) fn optional_list_at<'v>(
+    alloc: Global,
+    value: &'v Value,
+    key: &str,
+    high: usize,
+) -> Result<&'v [Value], WalkEnd>
+    ensures exact { Gives (λ s. map view s.now) result (optional_list key.now high (get key.now (view value.now))) }
+    ensures range { IfOk result (λ s. length s.now ≤ high) }
+{
+    match value.get(key) {
+        None => Ok(&[]),
+        Some(found) => list_in(alloc, found, key, 0, high),
+    }
+}

@@ -1,0 +1,68 @@
+//! The places of an action that sends.
+
+ghost use Rattle.std.specs.Prelude.{◌≡◌, ◌<◌, ◌≤◌, nat_le, codes, length, IfOk, IfSome};
+ghost use Rattle.kit_file.specs.Paths.{key_path};
+ghost use Rattle.kit_file.specs.Agreement.{Gives};
+ghost use Rattle.kit_file.specs.Reading.{guard};
+ghost use Rattle.kit_file.specs.Names.{var_name, reference};
+ghost use Rattle.kit_file.specs.Operands.{operand_of};
+ghost use Rattle.kit_file.specs.Actions.{keep_of, send_of};
+ghost use Rattle.serde_json.specs.View.{view};
+ghost use Rattle.serde_json.specs.Find.{get};
+ghost use Rattle.kit_rules.specs.Federation.{IsAction};
+
+use crate::fault::{Fault, FaultKind, WalkEnd};
+use crate::names::reference_at;
+use crate::operands::operand_at;
+use crate::places::number_at;
+use kit_rules::{Action, Group, Var};
+use serde_json::Value;
+use std::alloc::Global;
+
+fn keep_at(alloc: Global, value: &Value, vars: &[Var]) -> Result<Option<u8>, WalkEnd>
+    requires { length vars.now ≤ 8 }
+    ensures exact { Gives (λ k. k) result (keep_of vars.now (view value.now) (get (codes "keep") (view value.now))) }
+    ensures sound { IfOk result (λ k. IfSome k (λ v. v < length vars.now)) }
+{
+    match value.get("keep") {
+        None => Ok(None),
+        Some(_) => Ok(Some(reference_at(alloc, value, "keep", vars)?)),
+    }
+}
+
+fn in_time_at(alloc: Global, lookahead: u32, delay: u64) -> Result<(), WalkEnd>
+    ensures exact { Gives (λ _. tt) result (guard (nat_le lookahead delay) FaultKind.SendTooSoon (key_path (codes "delay"))) }
+    ensures sound { IfOk result (λ _. lookahead ≤ delay) }
+{
+    if lookahead as u64 <= delay {
+        Ok(())
+    } else {
+        Err(WalkEnd::Fault(Fault::at_key(alloc, FaultKind::SendTooSoon, "delay")?))
+    }
+}
+
+#[tactic(auto, unfolding(crate::specs::Actions::send_of))]
+pub(crate) fn send_in(
+    alloc: Global,
+    groups: &[Group],
+    vars: &[Var],
+    lookahead: u32,
+    value: &Value,
+) -> Result<Action, WalkEnd>
+    requires groups { length groups.now ≤ 32 }
+    requires vars { length vars.now ≤ 8 }
+    ensures exact { Gives (λ a. a) result (send_of groups.now vars.now lookahead (view value.now)) }
+    ensures sound { IfOk result (λ a. IsAction (length groups.now) (length vars.now) lookahead a) }
+{
+    let group = reference_at(alloc, value, "send", groups)?;
+    let delay = number_at(alloc, value, "delay", 0, 100_000)?;
+    in_time_at(alloc, lookahead, delay)?;
+    let operand = operand_at(alloc, value, "value", vars)?;
+    let keep = keep_at(alloc, value, vars)?;
+    Ok(Action::Send {
+        group,
+        delay: delay as u32,
+        value: operand,
+        keep,
+    })
+}

@@ -1,0 +1,250 @@
+use super::*;
+use kit_rules::Federation;
+use std::alloc::{AllocError, Global};
+use std::test::*;
+
+/// The text as bytes, with a double quote for each single one.
+fn quoted(alloc: Global, text: &str) -> Result<Vec<u8>, AllocError> {
+    let mut bytes = Vec::new(alloc);
+    for byte in text.as_bytes() {
+        bytes.push(if *byte == b'\'' { b'"' } else { *byte })?;
+    }
+    Ok(bytes)
+}
+
+/// A file with these federates.
+fn of_federates(alloc: Global, federates: &str) -> Result<Vec<u8>, AllocError> {
+    let head = "{'version':1,'end':9,'buffers':4,'groups':[{'name':'g','members':['a']}]";
+    let text = format!(in alloc; "{head},'federates':[{federates}]}}")?;
+    quoted(alloc, &text)
+}
+
+/// A file with one federate, of lookahead 2 and with the variable v, and with this rule.
+fn of_rule(alloc: Global, rule: &str) -> Result<Vec<u8>, AllocError> {
+    let head = "{'name':'a','lookahead':2,'advance':{'tar':1},'vars':[{'name':'v','value':0}]";
+    let text = format!(in alloc; "{head},'rules':[{rule}]}}")?;
+    of_federates(alloc, &text)
+}
+
+/// An object whose one key holds this many lists, one in the other.
+fn nested(alloc: Global, lists: usize) -> Result<Vec<u8>, AllocError> {
+    let mut bytes = quoted(alloc, "{'note':")?;
+    for _ in 0..lists {
+        bytes.push(b'[')?;
+    }
+    for _ in 0..lists {
+        bytes.push(b']')?;
+    }
+    bytes.push(b'}')?;
+    Ok(bytes)
+}
+
+fn is_at(at: &FaultPath, path: &str) -> bool {
+    at.bytes() == path.as_bytes()
+}
+
+/// Whether the answer is of this variant and at this path.
+fn is_answer(answer: &Result<Federation, FileFault>, variant: &str, path: &str) -> bool {
+    match answer {
+        Ok(_) => variant == "Ok",
+        Err(FileFault::NotJson) => variant == "NotJson",
+        Err(FileFault::Missing { path: at }) => variant == "Missing" && is_at(at, path),
+        Err(FileFault::WrongKind { path: at }) => variant == "WrongKind" && is_at(at, path),
+        Err(FileFault::OutOfRange { path: at }) => variant == "OutOfRange" && is_at(at, path),
+        Err(FileFault::UnknownName { path: at }) => variant == "UnknownName" && is_at(at, path),
+        Err(FileFault::Repeated { path: at }) => variant == "Repeated" && is_at(at, path),
+        Err(FileFault::SendTooSoon { path: at }) => variant == "SendTooSoon" && is_at(at, path),
+        Err(FileFault::NoMemory) => false,
+    }
+}
+
+#[test]
+fn bytes_that_are_no_json(rt: HostRuntime) -> Result<(), Fail> {
+    let alloc = rt.alloc();
+    for text in [
+        b"".as_slice(),
+        b"\xff",
+        b"\xef\xbb\xbf{}",
+        b"{} {}",
+        b"{\"note\":1e400}",
+    ] {
+        let answer = read_federation(alloc, text);
+        assert!(rt; is_answer(&answer, "NotJson", ""), "at {text:?}");
+    }
+    let answer = read_federation(alloc, &nested(alloc, 127)?);
+    assert!(rt; is_answer(&answer, "NotJson", ""));
+    let answer = read_federation(alloc, &nested(alloc, 126)?);
+    assert!(rt; is_answer(&answer, "Missing", "version"));
+    Ok(())
+}
+
+#[test]
+fn places_of_the_root(rt: HostRuntime) -> Result<(), Fail> {
+    let alloc = rt.alloc();
+    for (text, variant, path) in [
+        ("[]", "WrongKind", "."),
+        ("{}", "Missing", "version"),
+        ("{'version':2}", "OutOfRange", "version"),
+        ("{'version':2,'version':1}", "Missing", "end"),
+        ("{'version':1,'end':0}", "OutOfRange", "end"),
+        ("{'version':1,'end':3.5}", "WrongKind", "end"),
+        ("{'version':1,'end':-0}", "WrongKind", "end"),
+        ("{'version':1,'end':1.0}", "WrongKind", "end"),
+        ("{'version':1,'end':1e2}", "WrongKind", "end"),
+        (
+            "{'version':1,'end':9,'buffers':65}",
+            "OutOfRange",
+            "buffers",
+        ),
+        (
+            "{'version':1,'end':9,'buffers':4,'federates':[0,0,0,0,0,0,0,0,0,0,0,0,0,0,0,0,0]}",
+            "OutOfRange",
+            "federates",
+        ),
+        (
+            "{'version':1,'end':9,'buffers':4,'federates':[{'name':'a'}],'groups':[0,0,0,0,0,0,0,0,0,0,0,0,0,0,0,0,0,0,0,0,0,0,0,0,0,0,0,0,0,0,0,0,0]}",
+            "OutOfRange",
+            "groups",
+        ),
+        (
+            "{'version':1,'end':9,'buffers':4,'federates':[{'name':'a'}],'groups':[{'name':'g','members':['c']}]}",
+            "UnknownName",
+            "groups[0].members[0]",
+        ),
+        (
+            "{'version':1,'end':9,'buffers':4,'federates':[{'name':'a'}],'groups':[{'name':'g','members':['a','a']}]}",
+            "Repeated",
+            "groups[0].members[1]",
+        ),
+    ] {
+        let bytes = quoted(alloc, text)?;
+        let answer = read_federation(alloc, &bytes);
+        assert!(rt; is_answer(&answer, variant, path), "at {text}");
+    }
+    Ok(())
+}
+
+#[test]
+fn places_of_a_federate(rt: HostRuntime) -> Result<(), Fail> {
+    let alloc = rt.alloc();
+    for (federates, variant, path) in [
+        (
+            "{'name':'a','lookahead':2,'advance':{'tar':1},'note':[1.5]}",
+            "Ok",
+            "",
+        ),
+        ("{'name':'a'},{'name':'a'}", "Repeated", "federates[1].name"),
+        ("{'name':'a b'}", "OutOfRange", "federates[0].name"),
+        (
+            "{'name':'a'},{'name':'b'}",
+            "Missing",
+            "federates[0].lookahead",
+        ),
+        (
+            "{'name':'a','lookahead':2,'advance':{}}",
+            "Missing",
+            "federates[0].advance.tar",
+        ),
+        (
+            "{'name':'a','lookahead':2,'advance':{'ner':0}}",
+            "OutOfRange",
+            "federates[0].advance.ner",
+        ),
+    ] {
+        let bytes = of_federates(alloc, federates)?;
+        let answer = read_federation(alloc, &bytes);
+        assert!(rt; is_answer(&answer, variant, path), "at {federates}");
+    }
+    Ok(())
+}
+
+#[test]
+fn places_of_a_rule(rt: HostRuntime) -> Result<(), Fail> {
+    let alloc = rt.alloc();
+    for (rule, variant, tail) in [
+        ("{'on':'start','do':[]}", "Ok", ""),
+        ("{'on':3}", "WrongKind", ".on"),
+        ("{'on':'end'}", "UnknownName", ".on"),
+        ("{'on':{}}", "Missing", ".on.got"),
+        ("{'on':{'got':'x'}}", "UnknownName", ".on.got"),
+        (
+            "{'on':'start','if':[{'left':1,'is':'xx'}]}",
+            "UnknownName",
+            ".if[0].is",
+        ),
+        ("{'on':'start'}", "Missing", ".do"),
+        ("{'on':'start','do':[{}]}", "Missing", ".do[0]"),
+        ("{'on':'start','do':[{'tar':1,'set':'v','to':1}]}", "Ok", ""),
+        (
+            "{'on':'start','do':[{'tar':1,'set':'w','to':1}]}",
+            "UnknownName",
+            ".do[0].set",
+        ),
+        (
+            "{'on':'start','do':[{'send':'g','delay':1,'value':0}]}",
+            "SendTooSoon",
+            ".do[0].delay",
+        ),
+        (
+            "{'on':'start','do':[{'send':'g','delay':2,'value':0}]}",
+            "Ok",
+            "",
+        ),
+        (
+            "{'on':'start','do':[{'send':'g','delay':2,'value':true}]}",
+            "WrongKind",
+            ".do[0].value",
+        ),
+    ] {
+        let bytes = of_rule(alloc, rule)?;
+        let path = format!(in alloc; "federates[0].rules[0]{tail}")?;
+        let answer = read_federation(alloc, &bytes);
+        assert!(rt; is_answer(&answer, variant, &path), "at {rule}");
+    }
+    Ok(())
+}
+
+#[test]
+fn files_of_the_first_form(rt: HostRuntime) -> Result<(), Fail> {
+    let alloc = rt.alloc();
+    assert!(rt; matches!(read_first_form(alloc, b""), Err(FormFault::Unready)));
+    for (details, ready) in [
+        ("'advance':{'tar':1}", true),
+        ("'advance':{'ner':1}", false),
+        ("'advance':{'tar':1},'vars':[]", false),
+        (
+            "'advance':{'tar':1},'rules':[{'on':'start','do':[{'send':'g','delay':2,'value':7,'tar':1}]}]",
+            true,
+        ),
+        (
+            "'advance':{'tar':1},'rules':[{'on':'grant','do':[]}]",
+            false,
+        ),
+        (
+            "'advance':{'tar':1},'rules':[{'on':'start','if':[],'do':[]}]",
+            false,
+        ),
+        (
+            "'advance':{'tar':1},'rules':[{'on':'start','do':[{'tar':1}]}]",
+            false,
+        ),
+        (
+            "'advance':{'tar':1},'rules':[{'on':'start','do':[{'send':'g','delay':2,'value':7,'keep':'v'}]}]",
+            false,
+        ),
+        (
+            "'advance':{'tar':1},'rules':[{'on':'start','do':[{'send':'g','delay':2,'value':'$now'}]}]",
+            false,
+        ),
+    ] {
+        let federate = format!(in alloc; "{{'name':'a','lookahead':2,{details}}}")?;
+        let bytes = of_federates(alloc, &federate)?;
+        let answer = read_first_form(alloc, &bytes);
+        assert!(rt;
+            matches!(answer, Err(FormFault::Unready)) != ready,
+            "at {details}"
+        );
+        assert!(rt; answer.is_ok() == ready, "at {details}");
+    }
+    Ok(())
+}

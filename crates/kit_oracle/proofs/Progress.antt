@@ -1,0 +1,155 @@
+-- The desks from grant to grant, and at the start.
+use Rattle.std.proofs.Common.{◌≡◌, ℕ, zero, suc, ◌+◌, ◌-◌, ◌*◌, ◌<◌, ◌≤◌, List, [], ◌∷◌, ◌++◌, length, map, find, Option, Some, None, arith, refl, sym, subst, ap, ◌∙◌, add-one, Ok, Err}
+use Rattle.std.specs.List.{range_with_len}
+use Rattle.std.specs.Prelude.{Result}
+use Rattle.std.proofs.lemmas.List.{append-nil}
+use Rattle.std.proofs.lemmas.List.FromFn.{map-range_with_len_more, length-map-range_with_len}
+use Rattle.std.proofs.lemmas.Grind.{flat_map-append}
+use Rattle.kit_base.specs.declared.history.Line.{Line}
+use Rattle.kit_base.specs.declared.message.Message.{Message}
+use Rattle.kit_rules.specs.Parts.{Parts}
+use Rattle.kit_rules.specs.Federation.{IsFederation}
+use Rattle.kit_rules.specs.declared.scene.ApplyEnd.{ApplyEnd}
+use Rattle.kit_rules.specs.declared.scene.ApplyEnd.TheVariants as apply
+use Rattle.kit_rules.specs.Delivery.{due_messages}
+use Rattle.kit_rules.specs.Simulation.{Seat, World, Block, least, started, started_seat, seat_at, granted, granted_or_same, next_grant, advanced, after_grants, simulated, block, block_lines, lines_of, is_spent, spender, closing_vars}
+use Rattle.kit_laws.specs.Sane.{IsSane}
+use Rattle.kit_laws.proofs.Rising.{after_suc}
+use Rattle.kit_laws.proofs.Sanity.{granted_sane, next_fine}
+use Rattle.kit_laws.proofs.Worlds.{after_none, spender_from, granted_find, granted_none}
+use Rattle.kit_oracle.specs.declared.desk.Desk.{Desk}
+use Rattle.kit_oracle.specs.declared.end.OracleEnd.{OracleEnd}
+use Rattle.kit_oracle.specs.declared.end.OracleEnd.TheVariants.{SendsSpent, NoMemory}
+use Rattle.kit_oracle.specs.Ends.{oracle_end, IfSpentAt, IfSpent}
+use Rattle.kit_oracle.specs.Queues.{front}
+use Rattle.kit_oracle.specs.Desks.{waiting_at, turned_at, desk_at, all_posted, after_grant, shown, shown_from, desks_of}
+use Rattle.kit_oracle.proofs.Starting.{told}
+use Rattle.kit_oracle.proofs.Entering.{front_is_due}
+use Rattle.kit_oracle.proofs.Showing.{waiting_shown, length_shown, post_each, desk_shown, turn_shown, grant_shown}
+use Rattle.kit_oracle.proofs.Freshness.{grant_fresh, start_fresh}
+
+-- an end by the number 16,385 alone has to be answered for
+pub spent_end : (end : ApplyEnd) (i : ℕ) (P : ℕ → Type 0) → (end ≡ apply.SendsSpent → P i) → IfSpentAt (oracle_end end i) P
+spent_end apply.SendsSpent i P h = h refl
+spent_end apply.NoMemory i P h = tt
+
+-- the same for an end that came from below
+pub spent_of : {T : Type 0} (r : Result T OracleEnd) (i : ℕ) (Past : Type 0) (P : ℕ → Type 0) → IfSpent r (λ k. k ≡ i) → IfSpent r (λ _. Past) → (Past → P i) → IfSpent r P
+spent_of (Ok x) i Past P a b f = tt
+spent_of (Err (SendsSpent k)) i Past P a b f = subst P (sym a) (f b)
+spent_of (Err NoMemory) i Past P a b f = tt
+
+-- a desk that is opened stands behind the others
+shown_behind : (p : Parts) (a k : ℕ) (ss : List Seat) (s : Seat) → shown_from p [] a (ss ++ s ∷ []) ≡ shown_from p [] a ss ++ shown p [] k s ∷ []
+shown_behind p a k [] s = refl
+shown_behind p a k (x ∷ ss) s = ap (λ ds. shown p [] a x ∷ ds) (shown_behind p (a + 1) k ss s)
+
+-- one more desk is opened
+pub shown_more : (p : Parts) (i : ℕ) → shown_from p [] 0 (map (started_seat p) (range_with_len 0 (i + 1))) ≡ shown_from p [] 0 (map (started_seat p) (range_with_len 0 i)) ++ shown p [] i (started_seat p i) ∷ []
+shown_more p i = ap (shown_from p [] 0) (map-range_with_len_more (started_seat p) 0 i i (omega arith)) ∙ shown_behind p 0 i (map (started_seat p) (range_with_len 0 i)) (started_seat p i)
+
+-- the desks at the start, with what was sent there posted
+pub start_shown : (p : Parts) → IsFederation p → all_posted p (started p).messages (shown_from p [] 0 (started p).seats) ≡ desks_of p (started p)
+start_shown p f = post_each p (started p).seats [] (started p).messages (start_fresh p f)
+
+-- there are no more desks than federates
+pub few_opened : (p : Parts) → IsFederation p → length (shown_from p [] 0 (started p).seats) ≤ 16
+few_opened p f = omega (arith, length_shown p [] 0 (started p).seats, length-map-range_with_len (started_seat p) 0 (length p.federates), f.federates.count.1)
+
+-- what the desks and the lines of a run show after n grants
+pub record Shows (p : Parts) (n : ℕ) (ds : List Desk) (ls : List Line) : Type 0 where
+  pub desks : ds ≡ desks_of p (after_grants p n (started p))
+  pub lines : ls ≡ lines_of (after_grants p n (started p)).blocks
+  pub none : find is_spent (after_grants p n (started p)).messages ≡ None
+  pub sane : IsSane p (after_grants p n (started p)).seats
+
+-- there are as many desks as federates
+pub few_desks : (p : Parts) (n : ℕ) (ds : List Desk) (ls : List Line) → Shows p n ds ls → length ds ≡ length p.federates
+few_desks p n ds ls s =
+    let w = after_grants p n (started p) in
+    ap (λ (xs : List Desk). length xs) s.desks ∙ length_shown p w.messages 0 w.seats ∙ s.sane.count
+
+-- the next grant, as it is found among the desks
+pub next_found : (p : Parts) (n : ℕ) (ds : List Desk) (ls : List Line) (end : ℕ) (r : Option (ℕ × ℕ)) → Shows p n ds ls → end ≡ p.end → r ≡ least None (waiting_at end 0 ds) → next_grant p (after_grants p n (started p)) ≡ r
+next_found p n ds ls end r s e h =
+    let w = after_grants p n (started p) in
+    ap (least None) (sym (waiting_shown p w.messages 0 w.seats)) ∙ ap (λ xs. least None (waiting_at p.end 0 xs)) (sym s.desks) ∙ ap (λ (t : ℕ). least None (waiting_at t 0 ds)) (sym e) ∙ sym h
+
+-- the next grant goes to a federate there is, by the end
+pub next_fits : (p : Parts) (n : ℕ) (ds : List Desk) (ls : List Line) (g : ℕ × ℕ) → Shows p n ds ls → next_grant p (after_grants p n (started p)) ≡ Some g → (g.1 < length p.federates) × (g.0 ≤ p.end)
+next_fits p n ds ls g s next =
+    let w = after_grants p n (started p) in
+    let fine = next_fine p w.messages w.seats g s.sane next in
+    (omega (arith, fine.0, s.sane.count), fine.1)
+
+-- so many grants, and then so many more
+after_more : (p : Parts) (a b n : ℕ) (w : World) → a + b ≡ n → after_grants p n w ≡ after_grants p b (after_grants p a w)
+after_more p zero b n w e = ap (λ (k : ℕ). after_grants p k w) (let is : n ≡ b = omega arith in is)
+after_more p (suc a) b zero w e = absurd (omega arith)
+after_more p (suc a) b (suc n) w e = after_more p a b n (advanced p w) (omega arith)
+
+-- a turn below the most, which is computed
+pub turn_within : (n a b c d : ℕ) → n < a * b → a ≡ c → b ≡ d → n < c * d
+turn_within n a b c d lt e f = let is : a * b ≡ c * d = cc in omega arith
+
+-- where nobody waits, the run is over
+pub over_here : (p : Parts) (n : ℕ) → n ≤ length p.federates * p.end → next_grant p (after_grants p n (started p)) ≡ None → after_grants p n (started p) ≡ simulated p
+over_here p n le next =
+    let most = length p.federates * p.end in
+    sym (after_more p n (most - n) most (started p) (omega arith) ∙ after_none p (most - n) (after_grants p n (started p)) next)
+
+-- one more turn is one more grant
+one_more : (p : Parts) (n : ℕ) (g : ℕ × ℕ) → next_grant p (after_grants p n (started p)) ≡ Some g → after_grants p (n + 1) (started p) ≡ granted p (after_grants p n (started p)) g
+one_more p n g next =
+    let w = after_grants p n (started p) in
+    ap (λ (k : ℕ). after_grants p k (started p)) (add-one n) ∙ after_suc p n (started p) ∙ ap (granted_or_same p w) next
+
+-- one more block has its lines last
+lines_more : (bs : List Block) (b : Block) → lines_of (bs ++ b ∷ []) ≡ lines_of bs ++ block_lines b
+lines_more bs b = flat_map-append block_lines bs (b ∷ []) ∙ ap (λ ls. lines_of bs ++ ls) (append-nil (block_lines b))
+
+-- one more grant shows one more grant
+pub granted_shows : (p : Parts) (n : ℕ) (ds es : List Desk) (ls ms : List Line) (g : ℕ × ℕ) → IsFederation p → Shows p n ds ls → next_grant p (after_grants p n (started p)) ≡ Some g
+    → es ≡ after_grant p g ds → ms ≡ ls ++ block_lines (block g.1 g.0 (front g.0 (desk_at ds g.1).queue)) → (turned_at p g ds).state.next ≤ 16385 → Shows p (n + 1) es ms
+granted_shows p n ds es ls ms g f s next de le room =
+    let w = after_grants p n (started p) in
+    let v = granted p w g in
+    let within = (next_fine p w.messages w.seats g s.sane next).0 in
+    let after : v ≡ after_grants p (n + 1) (started p) = sym (one_more p n g next) in
+    let D : World → Type 0 = λ u. es ≡ desks_of p u in
+    let L : World → Type 0 = λ u. ms ≡ lines_of u.blocks in
+    let N : World → Type 0 = λ u. find is_spent u.messages ≡ None in
+    let S : World → Type 0 = λ u. IsSane p u.seats in
+    let R : Desk → Type 0 = λ d. d.state.next ≤ 16385 in
+    let due = due_messages p g.1 g.0 (seat_at w g.1).got w.messages in
+    let turn = ap (turned_at p g) s.desks ∙ turn_shown p w g within in
+    let queue : front g.0 (desk_at ds g.1).queue ≡ due = ap (λ xs. front g.0 (desk_at xs g.1).queue) s.desks ∙ ap (λ (d : Desk). front g.0 d.queue) (desk_shown p w g.1 within) ∙ front_is_due p g.1 g.0 (seat_at w g.1).got w.messages in
+    record {
+      desks = subst D after (de ∙ ap (after_grant p g) s.desks ∙ grant_shown p w g within (grant_fresh p w g within (told p n f)));
+      lines = subst L after (le ∙ ap (λ xs. xs ++ block_lines (block g.1 g.0 (front g.0 (desk_at ds g.1).queue))) s.lines ∙ ap (λ ms. lines_of w.blocks ++ block_lines (block g.1 g.0 ms)) queue ∙ sym (lines_more w.blocks (block g.1 g.0 due)));
+      none = subst N after (granted_none p w g s.none (subst R turn room));
+      sane = subst S after (granted_sane p w g within s.sane);
+    }
+
+-- a grant that goes past number 16,384 is the first to do so
+pub spent_here : (p : Parts) (n : ℕ) (ds : List Desk) (ls : List Line) (g : ℕ × ℕ) → Shows p n ds ls → n < length p.federates * p.end → next_grant p (after_grants p n (started p)) ≡ Some g
+    → (desk_at ds g.1).state.next ≤ 16385 → 16385 < (turned_at p g ds).state.next → spender p ≡ Some g.1
+spent_here p n ds ls g s lt next room past =
+    let w = after_grants p n (started p) in
+    let most = length p.federates * p.end in
+    let within = (next_fine p w.messages w.seats g s.sane next).0 in
+    let R : Desk → Type 0 = λ d. d.state.next ≤ 16385 in
+    let Q : Desk → Type 0 = λ d. 16385 < d.state.next in
+    let goes : after_grants p (most - (n + 1)) (granted p w g) ≡ simulated p =
+    ap (after_grants p (most - (n + 1))) (sym (one_more p n g next)) ∙ sym (after_more p (n + 1) (most - (n + 1)) most (started p) (omega arith)) in
+    spender_from p (most - (n + 1)) (granted p w g) g.1 goes
+    (granted_find p w g s.none (subst R (ap (λ xs. desk_at xs g.1) s.desks ∙ desk_shown p w g.1 within) room) (subst Q (ap (turned_at p g) s.desks ∙ turn_shown p w g within) past))
+
+-- the closing variables stand on the desks
+vars_from : (p : Parts) (sent : List Message) (i : ℕ) (ss : List Seat) → map (λ (d : Desk). d.state.vars) (shown_from p sent i ss) ≡ map (λ (s : Seat). s.state.vars) ss
+vars_from p sent i [] = refl
+vars_from p sent i (s ∷ ss) = ap (λ xs. s.state.vars ∷ xs) (vars_from p sent (i + 1) ss)
+
+-- so they are those of the world
+pub vars_shown : (p : Parts) (w : World) → map (λ (d : Desk). d.state.vars) (desks_of p w) ≡ closing_vars w
+vars_shown p w = vars_from p w.messages 0 w.seats

@@ -1,0 +1,182 @@
+//! The grant of a time to a federate.
+
+ghost use Rattle.std.specs.Prelude.{◌≡◌, ◌<◌, ◌≤◌, ◌+◌, [], ◌∷◌, ◌++◌, length, map, take, drop, OnOk, Err};
+ghost use Rattle.kit_base.specs.declared.history.Line.TheVariants as line;
+ghost use Rattle.kit_rules.specs.Simulation.{request_at, after_deliveries, after_block, block, block_lines};
+ghost use Rattle.kit_oracle.specs.Queues.{front, behind};
+ghost use Rattle.kit_oracle.specs.Desks.{turned, turned_at, desk_at, after_grant};
+ghost use Rattle.kit_oracle.specs.Ends.{IfSpent};
+
+use crate::OracleEnd;
+use crate::desk::Desk;
+use crate::end::end_of;
+use crate::posting::post_all;
+use crate::queue::Queue;
+use kit_base::{Line, Message};
+use kit_rules::{ApplyEnd, FedState, Federation, Request, Trigger, Wish, apply};
+
+/// The request that a wish makes at a time.
+pub(crate) fn request_of(wish: Wish, now: u64, end: u64) -> Request
+    requires { now ≤ 100000 }
+    ensures { result ≡ request_at wish now end }
+{
+    match wish {
+        Wish::Tar(step) => Request::Tar((now + step as u64).min(end)),
+        Wish::Ner(step) => Request::Ner((now + step as u64).min(end)),
+    }
+}
+
+fn deliver(
+    federation: &Federation,
+    i: u8,
+    d: u64,
+    message: Message,
+    state: &mut FedState,
+    made: &mut Vec<Message>,
+    lines: &mut Vec<Line>,
+) -> Result<(), ApplyEnd>
+    requires federate { i < length federation.now.federates }
+    requires time { d ≤ federation.now.end }
+    ensures state { OnOk result (state.new ≡ after_deliveries federation.now i d state.old (message ∷ [])) }
+    ensures made { OnOk result (made.new.items ≡ made.old.items ++ drop (length state.old.sends) state.new.sends) }
+    ensures lines { OnOk result (lines.new.items ≡ lines.old.items ++ line.Deliver d i message ∷ []) }
+    ensures kept { take (length state.old.sends) state.new.sends ≡ state.old.sends }
+    ensures spent { result ≡ Err ApplyEnd.SendsSpent → 16385 < (after_deliveries federation.now i d state.old (message ∷ [])).next }
+{
+    lines.push(Line::Deliver {
+        granted: d,
+        federate: i,
+        message,
+    })?;
+    let group = message.group;
+    apply(
+        federation,
+        i,
+        state,
+        Trigger::Got { group },
+        d,
+        message.value,
+        made,
+    )
+}
+
+/// Delivers what is due, in order.
+fn deliver_all(
+    federation: &Federation,
+    i: u8,
+    d: u64,
+    state: &mut FedState,
+    queue: &mut Queue,
+    made: &mut Vec<Message>,
+    lines: &mut Vec<Line>,
+) -> Result<(), ApplyEnd>
+    requires federate { i < length federation.now.federates }
+    requires time { d ≤ federation.now.end }
+    ensures state { OnOk result (state.new ≡ after_deliveries federation.now i d state.old (front d queue.old)) }
+    ensures queue { OnOk result (queue.new ≡ behind d queue.old) }
+    ensures made { OnOk result (made.new.items ≡ made.old.items ++ drop (length state.old.sends) state.new.sends) }
+    ensures lines { OnOk result (lines.new.items ≡ lines.old.items ++ map (line.Deliver d i) (front d queue.old)) }
+    ensures spent { result ≡ Err ApplyEnd.SendsSpent → 16385 < (after_deliveries federation.now i d state.old (front d queue.old)).next }
+{
+    while let Some(message) = queue.pop_due(d) {
+        deliver(federation, i, d, message, state, made, lines)?;
+    }
+    Ok(())
+}
+
+/// The rules of the deliveries, and then those of the grant.
+fn run_block(
+    federation: &Federation,
+    i: u8,
+    d: u64,
+    state: &mut FedState,
+    queue: &mut Queue,
+    made: &mut Vec<Message>,
+    lines: &mut Vec<Line>,
+) -> Result<(), ApplyEnd>
+    requires federate { i < length federation.now.federates }
+    requires time { d ≤ federation.now.end }
+    ensures state { OnOk result (state.new ≡ after_block federation.now i d state.old (front d queue.old)) }
+    ensures queue { OnOk result (queue.new ≡ behind d queue.old) }
+    ensures made { OnOk result (made.new.items ≡ made.old.items ++ drop (length state.old.sends) state.new.sends) }
+    ensures lines { OnOk result (lines.new.items ≡ lines.old.items ++ block_lines (block i d (front d queue.old))) }
+    ensures spent { result ≡ Err ApplyEnd.SendsSpent → 16385 < (after_block federation.now i d state.old (front d queue.old)).next }
+    ensures room { OnOk result (state.new.next ≤ 16385) }
+    ensures was_room { state.old.next ≤ 16385 }
+{
+    let _ = state.next();
+    deliver_all(federation, i, d, state, queue, made, lines)?;
+    lines.push(Line::Grant {
+        time: d,
+        federate: i,
+    })?;
+    apply(federation, i, state, Trigger::Grant, d, 0, made)
+}
+
+/// A grant on the federate's own desk; what it sends is added to `made`.
+fn turn(
+    federation: &Federation,
+    i: u8,
+    d: u64,
+    desk: &mut Desk,
+    made: &mut Vec<Message>,
+    lines: &mut Vec<Line>,
+) -> Result<(), ApplyEnd>
+    requires federate { i < length federation.now.federates }
+    requires time { d ≤ federation.now.end }
+    ensures desk { OnOk result (desk.new ≡ turned federation.now i d desk.old) }
+    ensures made { OnOk result (made.new.items ≡ made.old.items ++ drop (length desk.old.state.sends) desk.new.state.sends) }
+    ensures lines { OnOk result (lines.new.items ≡ lines.old.items ++ block_lines (block i d (front d desk.old.queue))) }
+    ensures spent { result ≡ Err ApplyEnd.SendsSpent → 16385 < (turned federation.now i d desk.old).state.next }
+    ensures room { OnOk result ((turned federation.now i d desk.old).state.next ≤ 16385) }
+    ensures was_room { desk.old.state.next ≤ 16385 }
+{
+    let _ = desk.state.next();
+    let end = federation.end();
+    run_block(
+        federation,
+        i,
+        d,
+        &mut desk.state,
+        &mut desk.queue,
+        made,
+        lines,
+    )?;
+    desk.now = d;
+    if d < end {
+        desk.request = request_of(desk.state.wish(), d, end);
+    }
+    Ok(())
+}
+
+/// A grant with its messages posted; `made` is a place for them, empty before and after.
+pub(crate) fn grant(
+    federation: &Federation,
+    pair: (u64, u8),
+    desks: &mut Vec<Desk>,
+    made: &mut Vec<Message>,
+    lines: &mut Vec<Line>,
+) -> Result<(), OracleEnd>
+    requires federate { pair.1 < length federation.now.federates }
+    requires desk { pair.1 < length desks.old.items }
+    requires few { length desks.old.items ≤ 16 }
+    requires time { pair.0 ≤ federation.now.end }
+    requires made { made.old.items ≡ [] }
+    ensures desks { OnOk result (desks.new.items ≡ after_grant federation.now pair desks.old.items) }
+    ensures made { OnOk result (made.new.items ≡ []) }
+    ensures lines { OnOk result (lines.new.items ≡ lines.old.items ++ block_lines (block pair.1 pair.0 (front pair.0 (desk_at desks.old.items pair.1).queue))) }
+    ensures spent { IfSpent result (λ i. i ≡ pair.1) }
+    ensures past { IfSpent result (λ _. 16385 < (turned_at federation.now pair desks.old.items).state.next) }
+    ensures room { OnOk result ((turned_at federation.now pair desks.old.items).state.next ≤ 16385) }
+    ensures was_room { (desk_at desks.old.items pair.1).state.next ≤ 16385 }
+{
+    let (d, i) = pair;
+    let desk = &mut desks[i as usize];
+    match turn(federation, i, d, desk, made, lines) {
+        Ok(()) => {}
+        Err(end) => return Err(end_of(end, i)),
+    }
+    post_all(federation, made, desks)?;
+    made.clear();
+    Ok(())
+}

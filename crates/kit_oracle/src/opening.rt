@@ -1,0 +1,81 @@
+//! The start of the simulation.
+
+ghost use Rattle.std.specs.Prelude.{◌≡◌, ◌<◌, ◌≤◌, [], ◌++◌, length, find, Some, None, Err, OnOk, IfOk};
+ghost use Rattle.kit_rules.specs.Simulation.{started, started_seat, spender, is_spent};
+ghost use Rattle.kit_oracle.specs.Desks.{shown, shown_from, desks_of};
+ghost use Rattle.kit_oracle.specs.Ends.{IfSpent};
+
+use crate::OracleEnd;
+use crate::desk::Desk;
+use crate::end::end_of;
+use crate::grants::request_of;
+use crate::posting::post_all;
+use crate::queue::Queue;
+use kit_base::Message;
+use kit_rules::{ApplyEnd, FedState, Federation, Trigger, apply};
+use std::alloc::Global;
+
+/// A federate whose start's rules have run; what they send is added to `made`.
+fn open(
+    alloc: Global,
+    federation: &Federation,
+    i: u8,
+    made: &mut Vec<Message>,
+) -> Result<Desk, ApplyEnd>
+    requires { i < length federation.now.federates }
+    ensures desk { IfOk result (λ desk. desk ≡ shown federation.now [] i (started_seat federation.now i)) }
+    ensures made { OnOk result (made.new.items ≡ made.old.items ++ (started_seat federation.now i).state.sends) }
+    ensures spent { result ≡ Err ApplyEnd.SendsSpent → 16385 < (started_seat federation.now i).state.next }
+    ensures room { OnOk result ((started_seat federation.now i).state.next ≤ 16385) }
+{
+    let end = federation.end();
+    let mut state = FedState::new(alloc, federation, i);
+    apply(federation, i, &mut state, Trigger::Start, 0, 0, made)?;
+    let request = request_of(state.wish(), 0, end);
+    Ok(Desk {
+        now: 0,
+        request,
+        state,
+        queue: Queue::new(alloc),
+    })
+}
+
+fn open_each(
+    alloc: Global,
+    federation: &Federation,
+    made: &mut Vec<Message>,
+) -> Result<Vec<Desk>, OracleEnd>
+    requires { made.old.items ≡ [] }
+    ensures desks { IfOk result (λ desks. desks.items ≡ shown_from federation.now [] 0 (started federation.now).seats) }
+    ensures made { OnOk result (made.new.items ≡ (started federation.now).messages) }
+    ensures none { OnOk result (find is_spent (started federation.now).messages ≡ None) }
+    ensures spent { IfSpent result (λ i. spender federation.now ≡ Some i) }
+{
+    let mut desks = Vec::new(alloc);
+    for i in 0..federation.count() {
+        match open(alloc, federation, i, made) {
+            Ok(desk) => desks.push(desk)?,
+            Err(end) => return Err(end_of(end, i)),
+        }
+    }
+    Ok(desks)
+}
+
+/// The desks after the start's rules of all federates; `made` is empty before and after.
+pub(crate) fn open_all(
+    alloc: Global,
+    federation: &Federation,
+    made: &mut Vec<Message>,
+) -> Result<Vec<Desk>, OracleEnd>
+    requires { made.old.items ≡ [] }
+    ensures desks { IfOk result (λ desks. desks.items ≡ desks_of federation.now (started federation.now)) }
+    ensures made { OnOk result (made.new.items ≡ []) }
+    ensures none { OnOk result (find is_spent (started federation.now).messages ≡ None) }
+    ensures spent { IfSpent result (λ i. spender federation.now ≡ Some i) }
+{
+    let _ = federation.count();
+    let mut desks = open_each(alloc, federation, made)?;
+    post_all(federation, made, &mut desks)?;
+    made.clear();
+    Ok(desks)
+}

@@ -1,0 +1,70 @@
+//! Messages on their way to the federates that they reach.
+
+ghost use Rattle.std.specs.Prelude.{◌≡◌, ◌<◌, ◌≤◌, [], length, OnOk};
+ghost use Rattle.kit_oracle.specs.Queues.{posted};
+ghost use Rattle.kit_oracle.specs.Desks.{reached, posted_from, all_posted};
+
+use crate::desk::Desk;
+use crate::queue::{Key, Queue};
+use kit_base::{Kind, Message};
+use kit_rules::{Federation, is_member, receivers, transported};
+use std::alloc::AllocError;
+
+/// Those that a message reaches, as a mask.
+fn reach(federation: &Federation, message: &Message) -> u16
+    ensures { result ≡ reached federation.now message.now }
+{
+    if transported(federation, message) {
+        receivers(federation, message.sender, message.group)
+    } else {
+        0
+    }
+}
+
+/// Posts a message to federate `j`: an Event goes to its place, and a Retraction takes out the
+/// Event that it names, which has its time.
+fn post_at(mask: u16, j: u8, message: &Message, queue: &mut Queue) -> Result<(), AllocError>
+    requires { j < 16 }
+    ensures { OnOk result (queue.new ≡ posted mask j message.now queue.old) }
+{
+    match message.kind {
+        Kind::Event => {
+            if is_member(mask, j) {
+                queue.insert(*message)?;
+            }
+        }
+        Kind::Retraction => {
+            queue.remove(Key {
+                time: message.time,
+                sender: message.sender,
+                number: message.value,
+            });
+        }
+    }
+    Ok(())
+}
+
+fn post(mask: u16, message: &Message, desks: &mut Vec<Desk>) -> Result<(), AllocError>
+    requires { length desks.old.items ≤ 16 }
+    ensures { OnOk result (desks.new.items ≡ posted_from mask message.now 0 desks.old.items) }
+{
+    for j in 0..desks.len() {
+        post_at(mask, j as u8, message, &mut desks[j].queue)?;
+    }
+    Ok(())
+}
+
+/// Posts these messages in their order.
+pub(crate) fn post_all(
+    federation: &Federation,
+    made: &[Message],
+    desks: &mut Vec<Desk>,
+) -> Result<(), AllocError>
+    requires { length desks.old.items ≤ 16 }
+    ensures { OnOk result (desks.new.items ≡ all_posted federation.now made.now desks.old.items) }
+{
+    for message in made {
+        post(reach(federation, message), message, desks)?;
+    }
+    Ok(())
+}

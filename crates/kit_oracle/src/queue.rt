@@ -1,0 +1,93 @@
+//! A federate's undelivered messages, in the order of their keys.
+
+ghost use Rattle.std.specs.Prelude.{◌≡◌, ◌≤◌, [], ◌∷◌, IfSome, IfNone, OnOk, OnErr};
+ghost use Rattle.kit_oracle.specs.Queues.{enter, front, first_time, taken_out};
+
+use kit_base::Message;
+use std::alloc::{AllocError, Global};
+use std::collections::BTreeMap;
+use std::marker::Model;
+
+/// What messages are ordered by.
+#[derive(Clone, Copy, Debug, PartialEq, Eq, PartialOrd, Ord)]
+pub(crate) struct Key {
+    pub(crate) time: u64,
+    pub(crate) sender: u8,
+    pub(crate) number: u32,
+}
+
+/// Messages in the order of their keys, each under its own.
+#[derive(Drop)]
+pub(crate) struct Queue {
+    map: BTreeMap<Key, Message>,
+}
+
+impl Model for Queue {
+    ghost use Rattle.std.specs.Prelude.{List};
+    ghost use Rattle.std.specs.BTreeMap.{values};
+    ghost use Rattle.kit_base.specs.declared.message.Message.{Message};
+
+    ghost Value = { List Message };
+
+    ghost view = { λ q. values q.map };
+
+    ghost use Rattle.kit_oracle.specs.Queues.{IsQueue};
+
+    ghost invariant = { λ q. IsQueue q.map.entries };
+}
+
+impl Queue {
+    pub(crate) fn new(alloc: Global) -> Queue
+        ensures { result ≡ [] }
+    {
+        Queue {
+            map: BTreeMap::new(alloc),
+        }
+    }
+
+    pub(crate) fn insert(&mut self, message: Message) -> Result<(), AllocError>
+        ensures ok { OnOk result (self.new ≡ enter message self.old) }
+        ensures err { OnErr result (self.new ≡ self.old) }
+    {
+        let key = Key {
+            time: message.time,
+            sender: message.sender,
+            number: message.number as u32,
+        };
+        self.map.insert(key, message)?;
+        Ok(())
+    }
+
+    /// Takes out the message of this key, if it is there.
+    pub(crate) fn remove(&mut self, key: Key)
+        ensures { self.new ≡ taken_out key.time key.sender key.number self.old }
+    {
+        let _ = self.map.remove(&key);
+    }
+
+    /// The lesser of a time and that of the first message.
+    pub(crate) fn first_time(&self, time: u64) -> u64
+        ensures { result ≡ first_time time self.now }
+    {
+        match self.map.first_key_value() {
+            None => time,
+            Some((_, message)) => time.min(message.time),
+        }
+    }
+
+    /// Takes out the first message, if it is timed `by` or less.
+    pub(crate) fn pop_due(&mut self, by: u64) -> Option<Message>
+        ensures some { IfSome result (λ m. self.old ≡ m ∷ self.new) }
+        ensures due { IfSome result (λ m. m.time ≤ by) }
+        ensures none { IfNone result (front by self.old ≡ []) }
+        ensures unchanged { IfNone result (self.new ≡ self.old) }
+    {
+        match self.map.first_key_value() {
+            Some((_, message)) if message.time <= by => match self.map.pop_first() {
+                Some((_, first)) => Some(first),
+                None => None,
+            },
+            _ => None,
+        }
+    }
+}

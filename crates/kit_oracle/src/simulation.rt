@@ -1,0 +1,77 @@
+ghost use Rattle.std.specs.Prelude.{◌≡◌, ◌≤◌, [], length, map, find, Some, None, OnOk, IfOk, All};
+ghost use Rattle.kit_rules.specs.Fits.{LineFits};
+ghost use Rattle.kit_rules.specs.Simulation.{started, simulated, spender, is_spent, lines_of, closing_vars};
+ghost use Rattle.kit_oracle.specs.Desks.{desks_of};
+ghost use Rattle.kit_oracle.specs.Ends.{IfSpent};
+
+use crate::OracleEnd;
+use crate::desk::{Desk, next_of};
+use crate::grants::grant;
+use crate::opening::open_all;
+use kit_base::{History, Items, Line, Message};
+use kit_rules::Federation;
+use std::alloc::{AllocError, Global};
+
+/// Grants the least pair again and again, until no federate stands below the end.
+fn run_all(
+    federation: &Federation,
+    desks: &mut Vec<Desk>,
+    made: &mut Vec<Message>,
+    lines: &mut Vec<Line>,
+) -> Result<(), OracleEnd>
+    requires desks { desks.old.items ≡ desks_of federation.now (started federation.now) }
+    requires made { made.old.items ≡ [] }
+    requires lines { lines.old.items ≡ [] }
+    requires none { find is_spent (started federation.now).messages ≡ None }
+    ensures desks { OnOk result (desks.new.items ≡ desks_of federation.now (simulated federation.now)) }
+    ensures lines { OnOk result (lines.new.items ≡ lines_of (simulated federation.now).blocks) }
+    ensures none { OnOk result (find is_spent (simulated federation.now).messages ≡ None) }
+    ensures spent { IfSpent result (λ i. spender federation.now ≡ Some i) }
+{
+    let end = federation.end();
+    let most = federation.count() as u64 * end;
+    for _turn in 0..most {
+        match next_of(end, desks) {
+            None => return Ok(()),
+            Some(pair) => grant(federation, pair, desks, made, lines)?,
+        }
+    }
+    Ok(())
+}
+
+fn vars_of(alloc: Global, desks: &[Desk]) -> Result<Items<[u32; 8]>, AllocError>
+    ensures { IfOk result (λ vars. vars ≡ map (λ (d : _). d.state.vars) desks.now) }
+{
+    let mut vars = Items::new(alloc);
+    for desk in desks {
+        vars.push(desk.state.vars())?;
+    }
+    Ok(vars)
+}
+
+/// The sequential simulation of a federation, to the end.
+///
+/// As long as a federate stands below the end, the one whose next grant is due first is granted
+/// it, with the messages that are due then; of several the first in the order of the federates.
+/// It ends with `SendsSpent` where a federate takes number 16,385, and names the first to do so.
+pub fn simulate(alloc: Global, federation: &Federation) -> Result<History, OracleEnd>
+    ensures lines { IfOk result (λ h. h.lines ≡ lines_of (simulated federation.now).blocks) }
+    ensures vars { IfOk result (λ h. h.vars ≡ closing_vars (simulated federation.now)) }
+    ensures none { OnOk result (spender federation.now ≡ None) }
+    ensures spent { IfSpent result (λ i. spender federation.now ≡ Some i) }
+
+    // What the text asks of a history.
+    ensures fits { IfOk result (λ h. All (LineFits federation.now) h.lines) }
+    ensures each { IfOk result (λ h. length h.vars ≡ length federation.now.federates) }
+{
+    let _ = federation.count();
+    let mut made = Vec::new(alloc);
+    let mut lines = Vec::new(alloc);
+    let mut desks = open_all(alloc, federation, &mut made)?;
+    run_all(federation, &mut desks, &mut made, &mut lines)?;
+    let vars = vars_of(alloc, &desks)?;
+    Ok(History {
+        lines: Items::from_vec(lines),
+        vars,
+    })
+}

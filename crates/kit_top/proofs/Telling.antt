@@ -1,0 +1,39 @@
+-- What was told for one set of causes was told for another that follows from it.
+use Rattle.std.proofs.Common.{List, ℕ, Option}
+use Rattle.kit_top.specs.declared.status.Status.{Status}
+use Rattle.kit_top.specs.declared.status.Status.TheVariants.{Done, Usage, ReadFault, TooLong, Unready, SendsSpent, WriteFault, NoMemory}
+use Rattle.kit_rules.specs.Parts.{Parts}
+use Rattle.kit_file.specs.FirstForm.{IsFirstForm}
+use Rattle.kit_top.specs.Causes.{Told, Causes, FileCauses, FederationCauses, Reading, IsOracle, IsWhole}
+
+pub told_weaker : (A B : Status → List ℕ → Type 0) (old new : Option (List ℕ)) (s : Status) → ((s : Status) (text : List ℕ) → A s text → B s text) → Told A old new s → Told B old new s
+told_weaker A B old new Done f h = (h.0, f Done h.0 h.1, h.2)
+told_weaker A B old new Usage f h = (h.0, f Usage h.0 h.1, h.2)
+told_weaker A B old new ReadFault f h = (h.0, f ReadFault h.0 h.1, h.2)
+told_weaker A B old new TooLong f h = (h.0, f TooLong h.0 h.1, h.2)
+told_weaker A B old new Unready f h = (h.0, f Unready h.0 h.1, h.2)
+told_weaker A B old new (SendsSpent i) f h = (h.0, f (SendsSpent i) h.0 h.1, h.2)
+told_weaker A B old new WriteFault f h = (h.0, h.1, f h.0 h.1 h.2, h.3, h.4, h.5)
+told_weaker A B old new NoMemory f h = h
+
+-- what a federation causes, a file of it causes
+pub file_causes : (bytes : List ℕ) (p : Parts) → IsFirstForm bytes p → (s : Status) (text : List ℕ) → FederationCauses p s text → FileCauses bytes s text
+file_causes bytes p form Done text h = (p, form, h)
+file_causes bytes p form Usage text h = absurd h
+file_causes bytes p form ReadFault text h = absurd h
+file_causes bytes p form TooLong text h = absurd h
+file_causes bytes p form Unready text h = absurd h
+file_causes bytes p form (SendsSpent i) text h = (p, form, h)
+file_causes bytes p form WriteFault text h = absurd h
+file_causes bytes p form NoMemory text h = absurd h
+
+-- what a file causes, the word `oracle` and a reading of it cause
+pub oracle_causes : (words : List (List ℕ)) (r : Reading) (bytes : List ℕ) → IsOracle words → IsWhole r bytes → (s : Status) (text : List ℕ) → FileCauses bytes s text → Causes words r s text
+oracle_causes words r bytes word whole Done text h = (word, bytes, whole, h)
+oracle_causes words r bytes word whole Usage text h = absurd h.2
+oracle_causes words r bytes word whole ReadFault text h = absurd h.2
+oracle_causes words r bytes word whole TooLong text h = absurd h.2
+oracle_causes words r bytes word whole Unready text h = (word, bytes, whole, h)
+oracle_causes words r bytes word whole (SendsSpent i) text h = (word, bytes, whole, h)
+oracle_causes words r bytes word whole WriteFault text h = (word, bytes, whole, h)
+oracle_causes words r bytes word whole NoMemory text h = (word, bytes, whole, h)

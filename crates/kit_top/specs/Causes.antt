@@ -1,0 +1,72 @@
+-- Which status the words and the input cause, and what is written for it.
+use Rattle.std.specs.Prelude.{◌≡◌, ℕ, ◌+◌, ◌<◌, ◌≤◌, List, [], ◌∷◌, ◌++◌, length, take, codes, Bool, IsTrue, Option, Some, None, IfSome}
+use Rattle.std.specs.Io.KnownBytes.{Appends}
+use Rattle.kit_io.specs.Causes.{Rose, Took, TookAtMost}
+use Rattle.kit_rules.specs.Parts.{Parts, federate_at}
+use Rattle.kit_rules.specs.Simulation.{spender}
+use Rattle.kit_rules.specs.Text.{simulation_text}
+use Rattle.kit_file.specs.FirstForm.{IsFirstForm, IsUnready}
+use Rattle.kit_top.specs.declared.status.Status.{Status}
+use Rattle.kit_top.specs.declared.status.Status.TheVariants.{Done, Usage, ReadFault, TooLong, Unready, SendsSpent, WriteFault, NoMemory}
+
+-- the words are the one word `oracle`
+abbrev pub IsOracle : List (List ℕ) → Type 0
+IsOracle words = words ≡ codes "oracle" ∷ []
+
+-- what a call did to its source: the bytes that were left before and after it, where the source tells them,
+-- whether its last read showed the end, and the count of faults before and after
+pub record Reading : Type 0 where
+  pub before : Option (List ℕ)
+  pub after : Option (List ℕ)
+  pub ended : Bool
+  pub faults_before : ℕ
+  pub faults_after : ℕ
+
+abbrev pub reading : Option (List ℕ) → Option (List ℕ) → Bool → ℕ → ℕ → Reading
+reading before after ended faults_before faults_after = record { before = before; after = after; ended = ended; faults_before = faults_before; faults_after = faults_after }
+
+-- the most bytes of an input
+abbrev pub most_bytes : ℕ
+most_bytes = 1048576
+
+-- these bytes were all taken: a read showed the end of the input, and where the source tells its bytes, these are
+-- all that were left
+pub record IsWhole (r : Reading) (bytes : List ℕ) : Type 0 where
+  pub ended : IsTrue r.ended
+  pub short : length bytes ≤ most_bytes
+  pub all : IfSome r.before (λ xs. bytes ≡ xs)
+  pub emptied : IfSome r.before (λ _. r.after ≡ Some [])
+
+-- no read was made
+pub record IsUntouched (r : Reading) : Type 0 where
+  pub bytes : r.after ≡ r.before
+  pub faults : r.faults_after ≡ r.faults_before
+
+-- the line of a federate that takes number 16,385
+abbrev pub spent_text : Parts → ℕ → List ℕ
+spent_text p i = codes "fault SendsSpent " ++ (federate_at p i).name ++ codes "\n"
+
+-- what `oracle` makes of a federation
+abbrev pub FederationCauses : Parts → Status → List ℕ → Type 0
+FederationCauses p Done text = (spender p ≡ None) × (text ≡ simulation_text p)
+FederationCauses p (SendsSpent i) text = (spender p ≡ Some i) × (text ≡ spent_text p i)
+FederationCauses p _ text = ⊥
+
+-- what `oracle` makes of the bytes of a file
+abbrev pub FileCauses : List ℕ → Status → List ℕ → Type 0
+FileCauses bytes Unready text = IsUnready bytes × (text ≡ codes "fault Unready\n")
+FileCauses bytes s text = (p : Parts) × IsFirstForm bytes p × FederationCauses p s text
+
+-- the status that the words and the input cause, and its text
+abbrev pub Causes : List (List ℕ) → Reading → Status → List ℕ → Type 0
+Causes words r Usage text = (IsOracle words → ⊥) × IsUntouched r × (text ≡ codes "fault Usage\n")
+Causes words r ReadFault text = IsOracle words × Rose r.faults_before r.faults_after × TookAtMost r.before r.after most_bytes × (text ≡ codes "fault ReadFault\n")
+Causes words r TooLong text = IsOracle words × Took r.before r.after (most_bytes + 1) × (text ≡ codes "fault TooLong\n")
+Causes words r s text = IsOracle words × (bytes : List ℕ) × IsWhole r bytes × FileCauses bytes s text
+
+-- a status with its text, of which these are the causes, was written: whole, or a front of it where the sink
+-- failed, or nothing where there was no memory
+abbrev pub Told : (Status → List ℕ → Type 0) → Option (List ℕ) → Option (List ℕ) → Status → Type 0
+Told causes old new WriteFault = (s : Status) × (text : List ℕ) × causes s text × (n : ℕ) × (n < length text) × Appends old new (take n text)
+Told causes old new NoMemory = new ≡ old
+Told causes old new s = (text : List ℕ) × causes s text × Appends old new text

@@ -1,0 +1,14 @@
+//! The top call: from the words of a command line and a source to what is written to a sink.
+#![tactic(auto)]
+
+mod commands;
+mod oracle;
+mod status;
+mod word;
+
+pub use commands::plain;
+pub use status::Status;
+pub use word::Word;
+
+#[cfg(test)]
+mod tests;
