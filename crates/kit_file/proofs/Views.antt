@@ -1,9 +1,6 @@
 -- A list of values is the list of their data.
 use Rattle.std.proofs.Common.{◌≡◌, List, [], ◌∷◌, length, map, refl, ap, ◌∙◌}
-use Rattle.std.specs.Prelude.{Bool}
-use Rattle.std.specs.List.{list_all}
 use Rattle.std.proofs.lemmas.List.{length-map}
-use Rattle.std.proofs.lemmas.List.Folds.{list_all-map}
 use Rattle.serde_json.specs.Data.{Data}
 use Rattle.serde_json.specs.View.{view, items_of, items_view}
 use Rattle.serde_json.specs.declared.value.Value.{Value}
@@ -21,7 +18,3 @@ data_of_view vs = data_of-items_of (map view vs)
 -- how many members an array of values has
 pub length_of_view : (vs : List Value) → length (data_of (items_view vs)) ≡ length vs
 length_of_view vs = ap length (data_of_view vs) ∙ length-map vs view
-
--- a test of each member's data
-pub all_in_view : (test : Data → Bool) (vs : List Value) → list_all test (map view vs) ≡ list_all (λ v. test (view v)) vs
-all_in_view test vs = list_all-map test view vs

@@ -13,4 +13,3 @@ pub mod Groups
 pub mod Federates
 pub mod Walk
 pub mod Answers
-pub mod FirstForm

@@ -5,7 +5,6 @@ mod actions;
 mod fault;
 mod federate_names;
 mod federates;
-mod first_form;
 mod groups;
 mod names;
 mod operands;
@@ -16,7 +15,6 @@ mod sends;
 mod variables;
 
 pub use fault::{FaultPath, FileFault};
-pub use first_form::{FormFault, read_first_form};
 pub use reading::read_federation;
 
 #[cfg(test)]

@@ -1,28 +1,30 @@
 -- What was told for one set of causes was told for another that follows from it.
-use Rattle.std.proofs.Common.{List, ℕ, Option}
+use Rattle.std.proofs.Common.{◌≡◌, ◌≢◌, List, ℕ, Option, refl, sym, subst}
 use Rattle.kit_top.specs.declared.status.Status.{Status}
-use Rattle.kit_top.specs.declared.status.Status.TheVariants.{Done, Usage, ReadFault, TooLong, Unready, SendsSpent, WriteFault, NoMemory}
+use Rattle.kit_top.specs.declared.status.Status.TheVariants.{Done, Usage, ReadFault, TooLong, BadFile, SendsSpent, WriteFault, NoMemory}
 use Rattle.kit_rules.specs.Parts.{Parts}
-use Rattle.kit_file.specs.FirstForm.{IsFirstForm}
-use Rattle.kit_top.specs.Causes.{Told, Causes, FileCauses, FederationCauses, Reading, IsOracle, IsWhole}
+use Rattle.kit_file.specs.declared.fault.FileFault.{FileFault}
+use Rattle.kit_file.specs.declared.fault.FileFault.TheVariants as file
+use Rattle.kit_file.specs.Answers.{IsAccepted, IsFaultAtPath, IsNoJson}
+use Rattle.kit_top.specs.Causes.{Told, Causes, FileCauses, FederationCauses, Reading, IsOracle, IsWhole, IsBadFile, IsTheFault, bad_file_text}
 
 pub told_weaker : (A B : Status → List ℕ → Type 0) (old new : Option (List ℕ)) (s : Status) → ((s : Status) (text : List ℕ) → A s text → B s text) → Told A old new s → Told B old new s
 told_weaker A B old new Done f h = (h.0, f Done h.0 h.1, h.2)
 told_weaker A B old new Usage f h = (h.0, f Usage h.0 h.1, h.2)
 told_weaker A B old new ReadFault f h = (h.0, f ReadFault h.0 h.1, h.2)
 told_weaker A B old new TooLong f h = (h.0, f TooLong h.0 h.1, h.2)
-told_weaker A B old new Unready f h = (h.0, f Unready h.0 h.1, h.2)
+told_weaker A B old new (BadFile x) f h = (h.0, f (BadFile x) h.0 h.1, h.2)
 told_weaker A B old new (SendsSpent i) f h = (h.0, f (SendsSpent i) h.0 h.1, h.2)
 told_weaker A B old new WriteFault f h = (h.0, h.1, f h.0 h.1 h.2, h.3, h.4, h.5)
 told_weaker A B old new NoMemory f h = h
 
 -- what a federation causes, a file of it causes
-pub file_causes : (bytes : List ℕ) (p : Parts) → IsFirstForm bytes p → (s : Status) (text : List ℕ) → FederationCauses p s text → FileCauses bytes s text
+pub file_causes : (bytes : List ℕ) (p : Parts) → IsAccepted bytes p → (s : Status) (text : List ℕ) → FederationCauses p s text → FileCauses bytes s text
 file_causes bytes p form Done text h = (p, form, h)
 file_causes bytes p form Usage text h = absurd h
 file_causes bytes p form ReadFault text h = absurd h
 file_causes bytes p form TooLong text h = absurd h
-file_causes bytes p form Unready text h = absurd h
+file_causes bytes p form (BadFile x) text h = absurd h
 file_causes bytes p form (SendsSpent i) text h = (p, form, h)
 file_causes bytes p form WriteFault text h = absurd h
 file_causes bytes p form NoMemory text h = absurd h
@@ -33,7 +35,24 @@ oracle_causes words r bytes word whole Done text h = (word, bytes, whole, h)
 oracle_causes words r bytes word whole Usage text h = absurd h.2
 oracle_causes words r bytes word whole ReadFault text h = absurd h.2
 oracle_causes words r bytes word whole TooLong text h = absurd h.2
-oracle_causes words r bytes word whole Unready text h = (word, bytes, whole, h)
+oracle_causes words r bytes word whole (BadFile x) text h = (word, bytes, whole, h)
 oracle_causes words r bytes word whole (SendsSpent i) text h = (word, bytes, whole, h)
 oracle_causes words r bytes word whole WriteFault text h = (word, bytes, whole, h)
 oracle_causes words r bytes word whole NoMemory text h = (word, bytes, whole, h)
+
+-- what the reader of files says of a fault
+bad_file : (bytes : List ℕ) (f : FileFault) → IsFaultAtPath bytes f → (f ≡ file.NotJson → IsNoJson bytes) → f ≢ file.NoMemory → IsBadFile bytes f
+bad_file bytes file.NotJson at not_json other = not_json refl
+bad_file bytes (file.Missing path) at not_json other = at
+bad_file bytes (file.WrongKind path) at not_json other = at
+bad_file bytes (file.OutOfRange path) at not_json other = at
+bad_file bytes (file.UnknownName path) at not_json other = at
+bad_file bytes (file.Repeated path) at not_json other = at
+bad_file bytes (file.SendTooSoon path) at not_json other = at
+bad_file bytes file.NoMemory at not_json other = absurd (other refl)
+
+-- that fault, with its line, is caused by the file
+pub bad_file_causes : (bytes : List ℕ) (f : FileFault) → IsFaultAtPath bytes f → (f ≡ file.NotJson → IsNoJson bytes) → (s : Status) (text : List ℕ) → IsTheFault f s text → FileCauses bytes s text
+bad_file_causes bytes f at not_json s text h =
+    let P : Status → Type 0 = λ s. FileCauses bytes s text in
+    subst P (sym h.1) (bad_file bytes f at not_json h.0, h.2)

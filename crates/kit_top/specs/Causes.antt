@@ -1,13 +1,15 @@
 -- Which status the words and the input cause, and what is written for it.
-use Rattle.std.specs.Prelude.{◌≡◌, ℕ, ◌+◌, ◌<◌, ◌≤◌, List, [], ◌∷◌, ◌++◌, length, take, codes, Bool, IsTrue, Option, Some, None, IfSome}
+use Rattle.std.specs.Prelude.{◌≡◌, ◌≢◌, ℕ, ◌+◌, ◌<◌, ◌≤◌, List, [], ◌∷◌, ◌++◌, length, take, codes, Bool, IsTrue, Option, Some, None, IfSome}
 use Rattle.std.specs.Io.KnownBytes.{Appends}
 use Rattle.kit_io.specs.Causes.{Rose, Took, TookAtMost}
 use Rattle.kit_rules.specs.Parts.{Parts, federate_at}
 use Rattle.kit_rules.specs.Simulation.{spender}
 use Rattle.kit_rules.specs.Text.{simulation_text}
-use Rattle.kit_file.specs.FirstForm.{IsFirstForm, IsUnready}
+use Rattle.kit_file.specs.declared.fault.FileFault.{FileFault}
+use Rattle.kit_file.specs.declared.fault.FileFault.TheVariants as file
+use Rattle.kit_file.specs.Answers.{IsAccepted, IsFirstFault, IsNoJson}
 use Rattle.kit_top.specs.declared.status.Status.{Status}
-use Rattle.kit_top.specs.declared.status.Status.TheVariants.{Done, Usage, ReadFault, TooLong, Unready, SendsSpent, WriteFault, NoMemory}
+use Rattle.kit_top.specs.declared.status.Status.TheVariants.{Done, Usage, ReadFault, TooLong, BadFile, SendsSpent, WriteFault, NoMemory}
 
 -- the words are the one word `oracle`
 abbrev pub IsOracle : List (List ℕ) → Type 0
@@ -52,10 +54,40 @@ FederationCauses p Done text = (spender p ≡ None) × (text ≡ simulation_text
 FederationCauses p (SendsSpent i) text = (spender p ≡ Some i) × (text ≡ spent_text p i)
 FederationCauses p _ text = ⊥
 
+-- the line of a fault with its path
+abbrev pub path_text : List ℕ → List ℕ → List ℕ
+path_text kind path = codes "fault BadFile " ++ kind ++ codes " " ++ path ++ codes "\n"
+
+-- the line of what is wrong with a file
+abbrev pub bad_file_text : FileFault → List ℕ
+bad_file_text file.NotJson = codes "fault BadFile NotJson\n"
+bad_file_text (file.Missing path) = path_text (codes "Missing") path
+bad_file_text (file.WrongKind path) = path_text (codes "WrongKind") path
+bad_file_text (file.OutOfRange path) = path_text (codes "OutOfRange") path
+bad_file_text (file.UnknownName path) = path_text (codes "UnknownName") path
+bad_file_text (file.Repeated path) = path_text (codes "Repeated") path
+bad_file_text (file.SendTooSoon path) = path_text (codes "SendTooSoon") path
+bad_file_text file.NoMemory = []
+
+-- the bytes are no JSON text, or this is the first fault of their walk
+abbrev pub IsBadFile : List ℕ → FileFault → Type 0
+IsBadFile bytes file.NotJson = IsNoJson bytes
+IsBadFile bytes (file.Missing path) = IsFirstFault bytes (file.Missing path)
+IsBadFile bytes (file.WrongKind path) = IsFirstFault bytes (file.WrongKind path)
+IsBadFile bytes (file.OutOfRange path) = IsFirstFault bytes (file.OutOfRange path)
+IsBadFile bytes (file.UnknownName path) = IsFirstFault bytes (file.UnknownName path)
+IsBadFile bytes (file.Repeated path) = IsFirstFault bytes (file.Repeated path)
+IsBadFile bytes (file.SendTooSoon path) = IsFirstFault bytes (file.SendTooSoon path)
+IsBadFile bytes file.NoMemory = ⊥
+
+-- a fault that is to be told, with its line
+abbrev pub IsTheFault : FileFault → Status → List ℕ → Type 0
+IsTheFault fault s text = (fault ≢ file.NoMemory) × (s ≡ BadFile fault) × (text ≡ bad_file_text fault)
+
 -- what `oracle` makes of the bytes of a file
 abbrev pub FileCauses : List ℕ → Status → List ℕ → Type 0
-FileCauses bytes Unready text = IsUnready bytes × (text ≡ codes "fault Unready\n")
-FileCauses bytes s text = (p : Parts) × IsFirstForm bytes p × FederationCauses p s text
+FileCauses bytes (BadFile fault) text = IsBadFile bytes fault × (text ≡ bad_file_text fault)
+FileCauses bytes s text = (p : Parts) × IsAccepted bytes p × FederationCauses p s text
 
 -- the status that the words and the input cause, and its text
 abbrev pub Causes : List (List ℕ) → Reading → Status → List ℕ → Type 0

@@ -1,6 +1,7 @@
 //! The top call: from the words of a command line and a source to what is written to a sink.
 #![tactic(auto)]
 
+mod bad_file;
 mod commands;
 mod oracle;
 mod status;

@@ -6,7 +6,8 @@ ghost use Rattle.kit_rules.specs.Simulation.{spender};
 ghost use Rattle.kit_top.specs.Causes.{FederationCauses, FileCauses, Told, spent_text};
 
 use crate::Status;
-use kit_file::{FormFault, read_first_form};
+use crate::bad_file::tell_bad_file;
+use kit_file::read_federation;
 use kit_io::{Sink, write_text};
 use kit_oracle::{OracleEnd, simulate};
 use kit_report::text;
@@ -65,12 +66,8 @@ pub(crate) fn tell_oracle<K: Sink>(alloc: Global, bytes: &[u8], sink: &mut K) ->
     ensures told { Told (FileCauses bytes.now) (K.holds sink.old) (K.holds sink.new) result }
     ensures fault { result ≡ Status.WriteFault → Rose (K.faults sink.old) (K.faults sink.new) }
 {
-    match read_first_form(alloc, bytes) {
+    match read_federation(alloc, bytes) {
         Ok(federation) => tell_simulation(alloc, &federation, sink),
-        Err(FormFault::NoMemory) => Status::NoMemory,
-        Err(FormFault::Unready) => match write_text(sink, b"fault Unready\n") {
-            Ok(()) => Status::Unready,
-            Err(_) => Status::WriteFault,
-        },
+        Err(fault) => tell_bad_file(alloc, fault, sink),
     }
 }

@@ -1,7 +1,9 @@
 ghost use Rattle.std.specs.Prelude.{◌≡◌};
 
+use kit_file::FileFault;
+
 /// How a call of the program ended.
-#[derive(Clone, Copy, Debug, PartialEq, Eq)]
+#[derive(Debug, Drop)]
 pub enum Status {
     /// The text was written whole.
     Done,
@@ -11,8 +13,8 @@ pub enum Status {
     ReadFault,
     /// The source gave more than 1,048,576 bytes.
     TooLong,
-    /// The input is no federation file of the form that is read so far.
-    Unready,
+    /// The input is no federation file; this is what is wrong with it, and where.
+    BadFile(FileFault),
     /// A federate would take the number 16,385 for a message.
     SendsSpent { federate: u8 },
     /// A write to the sink failed.
@@ -33,10 +35,10 @@ impl Status {
             Status::Usage => 2,
             Status::ReadFault => 3,
             Status::TooLong => 4,
+            Status::BadFile(_) => 5,
             Status::SendsSpent { .. } => 8,
             Status::WriteFault => 10,
             Status::NoMemory => 11,
-            Status::Unready => 20,
         }
     }
 }

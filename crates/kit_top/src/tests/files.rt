@@ -1,0 +1,86 @@
+//! Federation files with their texts, and files with their fault lines.
+const ONE_FEDERATE: &str =
+    r#"{"version":1,"end":3,"buffers":1,"federates":[{"name":"a","lookahead":1,"advance":{"tar":1}}]}"#;
+
+const LATE_READER: &str =
+    r#"{"version":1,"end":2,"buffers":1,"groups":[{"name":"g","members":["b"]}],"federates":[{"name":"a","lookahead":1,"advance":{"tar":1},"rules":[{"on":"start","do":[{"send":"g","delay":1,"value":7}]}]},{"name":"b","lookahead":1,"advance":{"tar":2}}]}"#;
+
+const SAME_STEP: &str =
+    r#"{"version":1,"end":2,"buffers":1,"groups":[{"name":"g","members":["b"]}],"federates":[{"name":"a","lookahead":1,"advance":{"tar":1},"rules":[{"on":"start","do":[{"send":"g","delay":1,"value":7}]}]},{"name":"b","lookahead":1,"advance":{"tar":1}}]}"#;
+
+const ONE_TIME: &str =
+    r#"{"version":1,"end":4,"buffers":1,"groups":[{"name":"g","members":["c"]}],"federates":[{"name":"a","lookahead":1,"advance":{"tar":4},"rules":[{"on":"start","do":[{"send":"g","delay":3,"value":1}]}]},{"name":"b","lookahead":1,"advance":{"tar":4},"rules":[{"on":"start","do":[{"send":"g","delay":3,"value":2}]}]},{"name":"c","lookahead":1,"advance":{"ner":4}}]}"#;
+
+const NEXT_EVENT: &str =
+    r#"{"version":1,"end":5,"buffers":2,"groups":[{"name":"g","members":["b"]}],"federates":[{"name":"a","lookahead":1,"advance":{"tar":1},"rules":[{"on":"start","do":[{"send":"g","delay":5,"value":1},{"send":"g","delay":6,"value":2}]},{"on":"grant","if":[{"left":"$now","is":"eq","right":1}],"do":[{"send":"g","delay":1,"value":3}]}]},{"name":"b","lookahead":1,"advance":{"ner":5}}]}"#;
+
+const TAKEN_BACK: &str =
+    r#"{"version":1,"end":4,"buffers":2,"groups":[{"name":"g","members":["b"]}],"federates":[{"name":"a","lookahead":2,"advance":{"tar":2},"vars":[{"name":"m","value":0}],"rules":[{"on":"start","do":[{"send":"g","delay":4,"value":9,"keep":"m"}]},{"on":"grant","if":[{"left":"$now","is":"eq","right":2}],"do":[{"retract":"m"}]}]},{"name":"b","lookahead":1,"advance":{"tar":4}}]}"#;
+
+const TAKEN_BACK_LATE: &str =
+    r#"{"version":1,"end":4,"buffers":2,"groups":[{"name":"g","members":["b"]}],"federates":[{"name":"a","lookahead":2,"advance":{"tar":3},"vars":[{"name":"m","value":0}],"rules":[{"on":"start","do":[{"send":"g","delay":4,"value":9,"keep":"m"}]},{"on":"grant","if":[{"left":"$now","is":"eq","right":3}],"do":[{"retract":"m"}]}]},{"name":"b","lookahead":1,"advance":{"tar":4}}]}"#;
+
+const TAKEN_BACK_AT_ONCE: &str =
+    r#"{"version":1,"end":4,"buffers":2,"groups":[{"name":"g","members":["b"]}],"federates":[{"name":"a","lookahead":2,"advance":{"tar":4},"vars":[{"name":"m","value":0}],"rules":[{"on":"start","do":[{"send":"g","delay":4,"value":9,"keep":"m"},{"retract":"m"}]}]},{"name":"b","lookahead":1,"advance":{"tar":4}}]}"#;
+
+const OWN_GROUP: &str =
+    r#"{"version":1,"end":1,"buffers":1,"groups":[{"name":"self","members":["a"]}],"federates":[{"name":"a","lookahead":1,"advance":{"tar":1},"rules":[{"on":"start","do":[{"send":"self","delay":1,"value":0}]}]}]}"#;
+
+/// Files that are accepted, each with its text.
+pub(crate) const TEXTS: [(&str, &str); 9] = [
+    (ONE_FEDERATE, "1 a grant\n2 a grant\n3 a grant\nend a\n"),
+    (
+        LATE_READER,
+        "1 a grant\n2 a grant\n2 b got g a#1 @1 = 7\n2 b grant\nend a\nend b\n",
+    ),
+    (
+        SAME_STEP,
+        "1 a grant\n1 b got g a#1 @1 = 7\n1 b grant\n2 a grant\n2 b grant\nend a\nend b\n",
+    ),
+    (
+        ONE_TIME,
+        "3 c got g a#1 @3 = 1\n3 c got g b#1 @3 = 2\n3 c grant\n4 a grant\n4 b grant\n4 c grant\nend a\nend b\nend c\n",
+    ),
+    (
+        NEXT_EVENT,
+        "1 a grant\n2 a grant\n2 b got g a#3 @2 = 3\n2 b grant\n3 a grant\n4 a grant\n5 a grant\n5 b got g a#1 @5 = 1\n5 b grant\nend a\nend b\n",
+    ),
+    (
+        TAKEN_BACK,
+        "2 a grant\n4 a grant\n4 b grant\nend a m=1\nend b\n",
+    ),
+    (
+        TAKEN_BACK_LATE,
+        "3 a grant\n4 a grant\n4 b got g a#1 @4 = 9\n4 b grant\nend a m=1\nend b\n",
+    ),
+    (
+        TAKEN_BACK_AT_ONCE,
+        "4 a grant\n4 b grant\nend a m=1\nend b\n",
+    ),
+    (OWN_GROUP, "1 a grant\nend a\n"),
+];
+
+/// Files with a fault, each with the rest of its line.
+pub(crate) const FAULTS: [(&str, &str); 9] = [
+    (r#""#, "NotJson"),
+    (r#"[]"#, "WrongKind ."),
+    (r#"{}"#, "Missing version"),
+    (r#"{"version":2}"#, "OutOfRange version"),
+    (r#"{"version":1,"end":0}"#, "OutOfRange end"),
+    (
+        r#"{"version":1,"end":3.5,"buffers":1,"federates":[{"name":"a","lookahead":1,"advance":{"tar":1}}]}"#,
+        "WrongKind end",
+    ),
+    (
+        r#"{"version":1,"end":3,"buffers":1,"federates":[{"name":"a","lookahead":1,"advance":{"tar":1}},{"name":"a","lookahead":1,"advance":{"tar":1}}]}"#,
+        "Repeated federates[1].name",
+    ),
+    (
+        r#"{"version":1,"end":2,"buffers":1,"groups":[{"name":"g","members":["c"]}],"federates":[{"name":"a","lookahead":1,"advance":{"tar":1},"rules":[{"on":"start","do":[{"send":"g","delay":1,"value":7}]}]},{"name":"b","lookahead":1,"advance":{"tar":2}}]}"#,
+        "UnknownName groups[0].members[0]",
+    ),
+    (
+        r#"{"version":1,"end":2,"buffers":1,"groups":[{"name":"g","members":["b"]}],"federates":[{"name":"a","lookahead":2,"advance":{"tar":1},"rules":[{"on":"start","do":[{"send":"g","delay":1,"value":7}]}]},{"name":"b","lookahead":1,"advance":{"tar":2}}]}"#,
+        "SendTooSoon federates[0].rules[0].do[0].delay",
+    ),
+];
