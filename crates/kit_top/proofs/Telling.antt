@@ -1,12 +1,13 @@
 -- What was told for one set of causes was told for another that follows from it.
 use Rattle.std.proofs.Common.{◌≡◌, ◌≢◌, List, ℕ, Option, refl, sym, subst}
+use Rattle.std.specs.Io.KnownBytes.{Appends}
 use Rattle.kit_top.specs.declared.status.Status.{Status}
 use Rattle.kit_top.specs.declared.status.Status.TheVariants.{Done, Usage, ReadFault, TooLong, BadFile, SendsSpent, WriteFault, NoMemory}
 use Rattle.kit_rules.specs.Parts.{Parts}
 use Rattle.kit_file.specs.declared.fault.FileFault.{FileFault}
 use Rattle.kit_file.specs.declared.fault.FileFault.TheVariants as file
 use Rattle.kit_file.specs.Answers.{IsAccepted, IsFaultAtPath, IsNoJson}
-use Rattle.kit_top.specs.Causes.{Told, Causes, FileCauses, FederationCauses, Reading, IsOracle, IsWhole, IsBadFile, IsTheFault, bad_file_text}
+use Rattle.kit_top.specs.Causes.{Told, Causes, FileCauses, FederationCauses, Reading, IsOracle, IsWhole, IsBadFile, IsTheFault, IsSimulated}
 
 pub told_weaker : (A B : Status → List ℕ → Type 0) (old new : Option (List ℕ)) (s : Status) → ((s : Status) (text : List ℕ) → A s text → B s text) → Told A old new s → Told B old new s
 told_weaker A B old new Done f h = (h.0, f Done h.0 h.1, h.2)
@@ -56,3 +57,23 @@ pub bad_file_causes : (bytes : List ℕ) (f : FileFault) → IsFaultAtPath bytes
 bad_file_causes bytes f at not_json s text h =
     let P : Status → Type 0 = λ s. FileCauses bytes s text in
     subst P (sym h.1) (bad_file bytes f at not_json h.0, h.2)
+
+-- what was told as Done is the simulation's text
+pub simulated_told : (words : List (List ℕ)) (r : Reading) (old new : Option (List ℕ)) (s : Status) → s ≡ Done → Told (Causes words r) old new s → IsSimulated words r old new
+simulated_told words r old new s e h =
+    let T : Status → Type 0 = λ s. Told (Causes words r) old new s in
+    done (subst T e h)
+  where
+    done : Told (Causes words r) old new Done → IsSimulated words r old new
+    done told =
+        let cause = told.1 in
+        let P : List ℕ → Type 0 = λ text. Appends old new text in
+        record {
+          word = cause.0;
+          input = cause.1;
+          whole = cause.2;
+          federation = cause.3.0;
+          accepted = cause.3.1;
+          within = cause.3.2.0;
+          written = subst P cause.3.2.1 told.2;
+        }

@@ -102,3 +102,19 @@ abbrev pub Told : (Status → List ℕ → Type 0) → Option (List ℕ) → Opt
 Told causes old new WriteFault = (s : Status) × (text : List ℕ) × causes s text × (n : ℕ) × (n < length text) × Appends old new (take n text)
 Told causes old new NoMemory = new ≡ old
 Told causes old new s = (text : List ℕ) × causes s text × Appends old new text
+
+-- the promise of `oracle`: the input is a federation file, and what was written is the text of its sequential
+-- timestamp-ordered simulation
+pub record IsSimulated (words : List (List ℕ)) (r : Reading) (old new : Option (List ℕ)) : Type 0 where
+  pub word : IsOracle words
+  pub input : List ℕ
+  pub whole : IsWhole r input
+  pub federation : Parts
+  pub accepted : IsAccepted input federation
+  pub within : spender federation ≡ None
+  pub written : Appends old new (simulation_text federation)
+
+-- where the source tells its bytes, and no read failed, the words and the input cause one status and one text
+abbrev pub OneCause : Type 0
+OneCause = (words : List (List ℕ)) (r : Reading) (xs : List ℕ) (s t : Status) (a b : List ℕ) → r.before ≡ Some xs → s ≢ ReadFault → t ≢ ReadFault
+    → Causes words r s a → Causes words r t b → (s ≡ t) × (a ≡ b)

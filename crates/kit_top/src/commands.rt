@@ -2,7 +2,7 @@
 
 ghost use Rattle.std.specs.Prelude.{◌≡◌, ◌↔◌, ◌≤◌, IsTrue, codes, [], ◌∷◌};
 ghost use Rattle.kit_io.specs.Causes.{Rose};
-ghost use Rattle.kit_top.specs.Causes.{IsOracle, Causes, Told, reading};
+ghost use Rattle.kit_top.specs.Causes.{IsOracle, IsSimulated, Causes, OneCause, Told, reading};
 
 use crate::oracle::tell_oracle;
 use crate::{Status, Word};
@@ -21,20 +21,9 @@ fn is_oracle(words: &[Word]) -> bool
     }
 }
 
-/// Reads a file from the source, does what the words say, and writes the text, or a line that
-/// names the fault, to the sink. It takes no threads and always returns.
-///
-/// `oracle`, alone, writes the text of the file's sequential timestamp-ordered simulation.
-/// The words are looked at first; then comes the reading of the source to its end, then its form,
-/// then the simulation, and then the writing: a text is made whole before its first byte is written.
-pub fn plain<S: Source, K: Sink>(
-    alloc: Global,
-    words: &[Word],
-    source: &mut S,
-    sink: &mut K,
-) -> Status
-    // Each status has its cause, and its text was written whole; a front of it for WriteFault,
-    // nothing for NoMemory.
+// Each status has its cause, and its text was written whole; a front of it for WriteFault, nothing
+// for NoMemory.
+fn answer<S: Source, K: Sink>(alloc: Global, words: &[Word], source: &mut S, sink: &mut K) -> Status
     ensures told { Told (Causes words.now (reading (S.left source.old) (S.left source.new) (S.ended source.new) (S.faults source.old) (S.faults source.new))) (K.holds sink.old) (K.holds sink.new) result }
     ensures fault { result ≡ Status.WriteFault → Rose (K.faults sink.old) (K.faults sink.new) }
 {
@@ -57,3 +46,32 @@ pub fn plain<S: Source, K: Sink>(
         },
     }
 }
+
+/// Reads a file from the source, does what the words say, and writes the text, or a line that
+/// names the fault, to the sink. It takes no threads and always returns.
+///
+/// `oracle`, alone, writes the text of the file's sequential timestamp-ordered simulation.
+/// The words are looked at first; then comes the reading of the source to its end, then its form,
+/// then the simulation, and then the writing: a text is made whole before its first byte is written.
+pub fn plain<S: Source, K: Sink>(
+    alloc: Global,
+    words: &[Word],
+    source: &mut S,
+    sink: &mut K,
+) -> Status
+    // Done: what was written is the text of the file's sequential timestamp-ordered simulation.
+    ensures done { result ≡ Status.Done → IsSimulated words.now (reading (S.left source.old) (S.left source.new) (S.ended source.new) (S.faults source.old) (S.faults source.new)) (K.holds sink.old) (K.holds sink.new) }
+
+    // Each status has its cause, and its text was written whole; a front of it for WriteFault,
+    // nothing for NoMemory.
+    ensures told { Told (Causes words.now (reading (S.left source.old) (S.left source.new) (S.ended source.new) (S.faults source.old) (S.faults source.new))) (K.holds sink.old) (K.holds sink.new) result }
+    ensures fault { result ≡ Status.WriteFault → Rose (K.faults sink.old) (K.faults sink.new) }
+{
+    answer(alloc, words, source, sink)
+}
+
+/// Where the source tells its bytes and no read failed, the words and the input cause one status
+/// and one text: so each status comes exactly where it has its cause.
+pub fn one_cause()
+    ensures { OneCause }
+{}

@@ -7,7 +7,7 @@ mod oracle;
 mod status;
 mod word;
 
-pub use commands::plain;
+pub use commands::{one_cause, plain};
 pub use status::Status;
 pub use word::Word;
 

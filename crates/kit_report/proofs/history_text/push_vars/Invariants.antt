@@ -1,5 +1,5 @@
 -- what is written, and the text of the rest, is the text of all
-use Rattle.std.proofs.Common.{◌≡◌, ◌++◌, length, drop}
+use Rattle.std.proofs.Common.{◌≡◌, ◌++◌, drop}
 use Rattle.kit_rules.specs.Text.{vars_text}
 use Rattle.kit_report.proofs.history_text.push_vars.Given as goal
 

@@ -1,5 +1,4 @@
-use Rattle.std.proofs.Common.{◌∙◌, ◌++◌, ap}
-use Rattle.std.specs.List.{flat_map}
+use Rattle.std.proofs.Common.{◌∙◌, ap}
 use Rattle.kit_laws.proofs.Fitting.{spender_within}
 use Rattle.kit_rules.specs.Text.{history_text}
 use Rattle.kit_rules.specs.Simulation.{lines_of, simulated}

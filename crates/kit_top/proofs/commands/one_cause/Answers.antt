@@ -1,0 +1,5 @@
+use Rattle.kit_top.proofs.OneCause.{one_cause_law}
+use Rattle.kit_top.proofs.commands.one_cause.Goals as goal
+
+pub returns : goal.returns
+returns c = one_cause_law
