@@ -4,9 +4,9 @@
 oracle.py [--beside "COMMAND WORDS"] [--repetitions N] [--only NAME,..] [FILE ..]
 
 Without FILE, loads are made here. Each load is run N times by each program in
-turns, with the output read and thrown away; the least and the median processor
-time (user and system) of the runs are taken, with the start of the process and
-the reading of the file. Printed are grants, deliveries and megabytes of text a
+turns, with the output read and thrown away; the median processor time (user and
+system) of the runs is taken, with the start of the process and the reading of
+the file. Printed are grants, deliveries and megabytes of text a
 second by the median, and the ratio of the medians. Another simulator gets the
 file on its standard input; its bytes must be those of rtik.
 
@@ -95,20 +95,18 @@ def run(command, path):
         output = child.stdout.read()
         _, status, usage = os.wait4(child.pid, 0)
         child.returncode = os.waitstatus_to_exitcode(status)
-    return output, usage.ru_utime + usage.ru_stime, usage.ru_maxrss
+    return output, usage.ru_utime + usage.ru_stime
 
 
 def measure(name, path, beside, repetitions):
     commands = [[RTIK, "oracle"]] + ([beside] if beside else [])
     seconds = [[] for _ in commands]
-    memory = [0 for _ in commands]
     outputs = [b"" for _ in commands]
     for turn in range(repetitions):
         for k in range(len(commands)):
             at = (k + turn) % len(commands)
-            outputs[at], took, peak = run(commands[at], path)
+            outputs[at], took = run(commands[at], path)
             seconds[at].append(took)
-            memory[at] = max(memory[at], peak)
     if any(output != outputs[0] for output in outputs):
         sys.exit("%s: the texts differ" % name)
     text = outputs[0]
@@ -118,7 +116,7 @@ def measure(name, path, beside, repetitions):
     for k in range(len(commands)):
         middle = max(statistics.median(seconds[k]), 1e-6)
         row += ["%.3f" % middle, "%.2f" % (grants / middle / 1e6), "%.2f" % (deliveries / middle / 1e6),
-                "%.0f" % (len(text) / middle / 1e6), "%.0f" % (memory[k] / 1024)]
+                "%.0f" % (len(text) / middle / 1e6)]
     if beside:
         row.append("%.2f" % (statistics.median(seconds[0]) / max(statistics.median(seconds[1]), 1e-6)))
     print("  ".join("%9s" % cell for cell in row), flush=True)
@@ -134,7 +132,7 @@ def main():
     if not os.path.exists(RTIK):
         sys.exit("build the program first: ./rtik")
     beside = shlex.split(args.beside)
-    head = ["load"] + ["seconds", "Mgrants/s", "Mdeliv/s", "MB/s", "MiB"] * (2 if beside else 1) + (["ratio"] if beside else [])
+    head = ["load"] + ["seconds", "Mgrants/s", "Mdeliv/s", "MB/s"] * (2 if beside else 1) + (["ratio"] if beside else [])
     print("  ".join("%9s" % cell for cell in head))
     only = set(filter(None, args.only.split(",")))
     if args.files:
