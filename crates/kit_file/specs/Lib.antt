@@ -13,3 +13,4 @@ pub mod Groups
 pub mod Federates
 pub mod Walk
 pub mod Answers
+pub mod Laws

@@ -6,6 +6,7 @@ mod fault;
 mod federate_names;
 mod federates;
 mod groups;
+mod laws;
 mod names;
 mod operands;
 mod places;
@@ -15,6 +16,7 @@ mod sends;
 mod variables;
 
 pub use fault::{FaultPath, FileFault};
+pub use laws::keys_mean;
 pub use reading::read_federation;
 
 #[cfg(test)]

@@ -9,6 +9,9 @@ use kit_base::{History, Line, Message, push_decimal};
 use kit_rules::{Federate, Federation, Var};
 use std::alloc::{AllocError, Global};
 
+/// The room that is made at once for a line, in bytes; the text grows past it where lines are longer.
+const LINE_ROOM: usize = 48;
+
 fn push_delivery(
     out: &mut Vec<u8>,
     federation: &Federation,
@@ -148,7 +151,8 @@ pub fn text(
     requires vars { length history.now.vars ≡ length federation.now.federates }
     ensures { IfOk result (λ out. out.items ≡ history_text federation.now history.now.lines history.now.vars) }
 {
-    let mut out = Vec::new(alloc);
+    let room = history.lines.len().saturating_mul(LINE_ROOM);
+    let mut out = Vec::with_capacity(alloc, room)?;
     push_lines(&mut out, federation, history.lines.as_slice())?;
     push_closings(&mut out, federation.federates(), history.vars.as_slice())?;
     Ok(out)

@@ -6,18 +6,18 @@ use kit_io::{MemorySink, MemorySource};
 use std::alloc::{AllocError, Global};
 use std::test::*;
 
-/// The words as the top call takes them.
-fn words_of(alloc: Global, texts: &[&str]) -> Result<Vec<Word>, AllocError> {
+/// The words of a command line, as the top call takes them.
+fn words_of(alloc: Global, line: &str) -> Result<Vec<Word>, AllocError> {
     let mut words = Vec::new(alloc);
-    for text in texts {
+    for text in line.split_whitespace() {
         words.push(Word::of(alloc, text)?)?;
     }
     Ok(words)
 }
 
 /// What the words and the input give: the exit status, and what the sink holds.
-fn run(alloc: Global, texts: &[&str], input: &[u8]) -> Result<(u8, Vec<u8>), AllocError> {
-    let words = words_of(alloc, texts)?;
+fn run(alloc: Global, line: &str, input: &[u8]) -> Result<(u8, Vec<u8>), AllocError> {
+    let words = words_of(alloc, line)?;
     let mut source = MemorySource::new(Vec::from_slice(alloc, input)?, usize::MAX, Vec::new(alloc));
     let mut sink = MemorySink::new(alloc, 4_096, usize::MAX, Vec::new(alloc))?;
     let status = plain(alloc, &words, &mut source, &mut sink);
@@ -47,7 +47,7 @@ fn many_sends(alloc: Global, end: &str) -> Result<Vec<u8>, AllocError> {
 #[test]
 fn files_give_their_texts(rt: HostRuntime) -> Result<(), AllocError> {
     for (file, text) in TEXTS {
-        let (code, held) = run(rt.alloc(), &["oracle"], file.as_bytes())?;
+        let (code, held) = run(rt.alloc(), "oracle", file.as_bytes())?;
         assert_eq!(rt; code, 0, "{file}");
         assert_eq!(rt; held.as_slice(), text.as_bytes(), "{file}");
     }
@@ -57,7 +57,7 @@ fn files_give_their_texts(rt: HostRuntime) -> Result<(), AllocError> {
 #[test]
 fn faults_of_files_give_their_lines(rt: HostRuntime) -> Result<(), AllocError> {
     for (file, rest) in FAULTS {
-        let (code, held) = run(rt.alloc(), &["oracle"], file.as_bytes())?;
+        let (code, held) = run(rt.alloc(), "oracle", file.as_bytes())?;
         let line = format!(in rt.alloc(); "fault BadFile {rest}\n")?;
         assert_eq!(rt; code, 5, "{file}");
         assert_eq!(rt; held.as_slice(), line.as_bytes(), "{file}");
@@ -67,19 +67,18 @@ fn faults_of_files_give_their_lines(rt: HostRuntime) -> Result<(), AllocError> {
 
 #[test]
 fn other_words_are_a_usage_fault(rt: HostRuntime) -> Result<(), AllocError> {
-    let none: [&str; 0] = [];
-    for words in [
-        none.as_slice(),
-        ["run", "0"].as_slice(),
-        ["run", "17"].as_slice(),
-        ["run", "03"].as_slice(),
-        ["replay", "q"].as_slice(),
-        ["oracle", "oracle"].as_slice(),
-        ["Oracle"].as_slice(),
+    for line in [
+        "",
+        "run 0",
+        "run 17",
+        "run 03",
+        "replay q",
+        "oracle oracle",
+        "Oracle",
     ] {
-        let (code, held) = run(rt.alloc(), words, b"")?;
-        assert_eq!(rt; code, 2);
-        assert_eq!(rt; held.as_slice(), b"fault Usage\n".as_slice());
+        let (code, held) = run(rt.alloc(), line, b"")?;
+        assert_eq!(rt; code, 2, "{line}");
+        assert_eq!(rt; held.as_slice(), b"fault Usage\n".as_slice(), "{line}");
     }
     Ok(())
 }
@@ -87,12 +86,12 @@ fn other_words_are_a_usage_fault(rt: HostRuntime) -> Result<(), AllocError> {
 #[test]
 fn numbers_end_at_16384(rt: HostRuntime) -> Result<(), AllocError> {
     let file = many_sends(rt.alloc(), "16")?;
-    let (code, held) = run(rt.alloc(), &["oracle"], &file)?;
+    let (code, held) = run(rt.alloc(), "oracle", &file)?;
     assert_eq!(rt; code, 0);
     assert_eq!(rt; held.iter().filter(|byte| **byte == b'\n').count(), 17);
 
     let file = many_sends(rt.alloc(), "17")?;
-    let (code, held) = run(rt.alloc(), &["oracle"], &file)?;
+    let (code, held) = run(rt.alloc(), "oracle", &file)?;
     assert_eq!(rt; code, 8);
     assert_eq!(rt; held.as_slice(), b"fault SendsSpent a\n".as_slice());
     Ok(())
@@ -106,7 +105,7 @@ fn long_input_is_refused(rt: HostRuntime) -> Result<(), AllocError> {
     ];
     for (size, code, line) in table {
         let spaces = vec![in rt.alloc(); b' '; size]?;
-        let answer = run(rt.alloc(), &["oracle"], &spaces)?;
+        let answer = run(rt.alloc(), "oracle", &spaces)?;
         assert_eq!(rt; answer.0, code);
         assert_eq!(rt; answer.1.as_slice(), line.as_bytes());
     }
@@ -116,7 +115,7 @@ fn long_input_is_refused(rt: HostRuntime) -> Result<(), AllocError> {
 #[test]
 fn faults_of_source_and_sink(rt: HostRuntime) -> Result<(), AllocError> {
     let alloc = rt.alloc();
-    let words = words_of(alloc, &["oracle"])?;
+    let words = words_of(alloc, "oracle")?;
 
     // The first read fails.
     let mut source = MemorySource::new(
@@ -145,7 +144,7 @@ fn faults_of_source_and_sink(rt: HostRuntime) -> Result<(), AllocError> {
 #[test]
 fn usage_reads_nothing(rt: HostRuntime) -> Result<(), AllocError> {
     let alloc = rt.alloc();
-    let words = words_of(alloc, &["lock"])?;
+    let words = words_of(alloc, "lock 1")?;
     // A read would fail.
     let mut source = MemorySource::new(Vec::new(alloc), 1, vec![in alloc; 0]?);
     let mut sink = MemorySink::new(alloc, 64, usize::MAX, Vec::new(alloc))?;
