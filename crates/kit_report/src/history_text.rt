@@ -23,7 +23,7 @@ fn push_delivery(
     ensures { OnOk result (out.new.items ≡ out.old.items ++ line_text federation.now (Line.Deliver granted federate message.now)) }
 {
     push_decimal(out, granted)?;
-    out.extend_from_slice(b" ")?;
+    out.push(b' ')?;
     out.extend_from_slice(federation.federate(federate).name.bytes())?;
     out.extend_from_slice(b" got ")?;
     push_origin(out, federation, message)?;
@@ -40,9 +40,9 @@ fn push_origin(
     ensures { OnOk result (out.new.items ≡ out.old.items ++ origin_text federation.now message.now) }
 {
     out.extend_from_slice(federation.group(message.group).name.bytes())?;
-    out.extend_from_slice(b" ")?;
+    out.push(b' ')?;
     out.extend_from_slice(federation.federate(message.sender).name.bytes())?;
-    out.extend_from_slice(b"#")?;
+    out.push(b'#')?;
     push_decimal(out, message.number as u64)
 }
 
@@ -53,7 +53,8 @@ fn push_value(out: &mut Vec<u8>, message: &Message) -> Result<(), AllocError>
     push_decimal(out, message.time)?;
     out.extend_from_slice(b" = ")?;
     push_decimal(out, message.value as u64)?;
-    out.extend_from_slice(b"\n")
+    out.push(b'\n')?;
+    Ok(())
 }
 
 fn push_grant(
@@ -66,7 +67,7 @@ fn push_grant(
     ensures { OnOk result (out.new.items ≡ out.old.items ++ line_text federation.now (Line.Grant time federate)) }
 {
     push_decimal(out, time)?;
-    out.extend_from_slice(b" ")?;
+    out.push(b' ')?;
     out.extend_from_slice(federation.federate(federate).name.bytes())?;
     out.extend_from_slice(b" grant\n")
 }
@@ -98,7 +99,7 @@ fn push_lines(out: &mut Vec<u8>, federation: &Federation, lines: &[Line]) -> Res
 fn push_var(out: &mut Vec<u8>, name: &[u8], value: u32) -> Result<(), AllocError>
     ensures { OnOk result (out.new.items ≡ out.old.items ++ codes " " ++ name.now ++ codes "=" ++ decimal value) }
 {
-    out.extend_from_slice(b" ")?;
+    out.push(b' ')?;
     out.extend_from_slice(name)?;
     out.extend_from_slice(b"=")?;
     push_decimal(out, value as u64)
@@ -121,7 +122,8 @@ fn push_closing(out: &mut Vec<u8>, federate: &Federate, values: &[u32; 8]) -> Re
     out.extend_from_slice(b"end ")?;
     out.extend_from_slice(federate.name.bytes())?;
     push_vars(out, federate.vars.as_slice(), values)?;
-    out.extend_from_slice(b"\n")
+    out.push(b'\n')?;
+    Ok(())
 }
 
 fn push_closings(
