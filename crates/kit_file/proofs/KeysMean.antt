@@ -1,4 +1,5 @@
 -- What the keys of an accepted file say.
+use Rattle.std.proofs.Math.Bool.{or-true}
 use Rattle.std.proofs.Common.{◌≡◌, ℕ, suc, ◌+◌, List, [], ◌∷◌, ◌++◌, length, Bool, true, false, ◌||◌, Option, Some, None, Result, Ok, Err, codes, nat_lt, refl, sym, ap, subst, ◌∙◌, arith, inl, inr, length-append}
 use Rattle.std.specs.Prelude.{if◌then◌else◌, option_and_then, slice_index_or}
 use Rattle.std.specs.Option.{option_map}
@@ -133,18 +134,13 @@ parts_are end buffers groups federates p e =
     let same : record { end = end; buffers = buffers; groups = groups; federates = federates } ≡ p = cc in
     (sym (ap (λ (q : Parts). q.end) same), sym (ap (λ (q : Parts). q.buffers) same), sym (ap (λ (q : Parts). q.federates) same))
 
--- whatever the first test says
-or_true : (b : Bool) → (b || true) ≡ true
-or_true true = refl
-or_true false = refl
-
 -- a number from 1 to 1
 only_one : (n : ℕ) → (nat_lt n 1 || nat_lt 1 n) ≡ false → n ≡ 1
 only_one n e =
     elim (cases_lt n 1) [
       | inl lt ↦ (let t : true ≡ false = sym (ap (λ b. b || nat_lt 1 n) (lt-ltb n 1 lt)) ∙ e in absurd (cc))
       | inr ge ↦ elim (cases_lt 1 n) [
-        | inl lt ↦ (let t : true ≡ false = sym (ap (λ b. nat_lt n 1 || b) (lt-ltb 1 n lt) ∙ or_true (nat_lt n 1)) ∙ e in absurd (cc))
+        | inl lt ↦ (let t : true ≡ false = sym (ap (λ b. nat_lt n 1 || b) (lt-ltb 1 n lt) ∙ or-true (nat_lt n 1)) ∙ e in absurd (cc))
         | inr le ↦ omega arith
       ]
     ]

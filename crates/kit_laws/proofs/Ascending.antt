@@ -8,7 +8,7 @@ use Rattle.kit_rules.specs.Delivery.{due_messages}
 use Rattle.kit_rules.specs.Simulation.{Block, World, is_sooner, seat_at, block, next_grant, started, granted, granted_or_same, advanced, after_grants}
 use Rattle.kit_laws.specs.Laws.{grants_of, Ascend, BlocksAscend}
 use Rattle.kit_laws.proofs.Least.{Rank, sooner_rank}
-use Rattle.kit_laws.proofs.Pendings.{all-append, each_weaker}
+use Rattle.kit_base.proofs.Lists.{all-append, each_weaker}
 use Rattle.kit_laws.proofs.Rising.{Reached, grants, started_reached, granted_reached}
 
 -- pairs that are no later than the last

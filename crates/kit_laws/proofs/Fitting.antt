@@ -1,12 +1,14 @@
 -- Lines and messages of the simulation name what is there.
-use Rattle.std.proofs.Common.{◌≡◌, ℕ, zero, suc, inl, inr, ◌+◌, ◌*◌, ◌<◌, ◌≤◌, Bool, true, false, cond, List, [], ◌∷◌, length, map, drop, get_or, set, filter, fold, Option, Some, None, IfSome, find, arith, refl, sym, subst, length-set}
+use Rattle.std.proofs.Common.{◌≡◌, ℕ, zero, suc, inl, inr, ◌+◌, ◌*◌, ◌<◌, ◌≤◌, List, [], ◌∷◌, length, map, drop, get_or, set, filter, fold, Option, Some, None, IfSome, find, arith, refl, sym, subst, length-set}
 use Rattle.std.specs.List.{AllByRecursion, range_with_len, flat_map, All}
 use Rattle.std.specs.Option.{option_map}
 use Rattle.std.proofs.lemmas.Bool.{cases_eq}
 use Rattle.std.proofs.lemmas.List.{get_or-set_other, get_or-set_same}
 use Rattle.std.proofs.lemmas.List.Elements.{All-from_recursion}
 use Rattle.std.proofs.lemmas.List.FromFn.{get_or-map-range_with_len, length-map-range_with_len}
+use Rattle.kit_base.proofs.Orders.{all_put}
 use Rattle.kit_base.specs.declared.message.Message.{Message}
+use Rattle.kit_base.proofs.Lists.{all-append, all_drop, all_filter, all_found}
 use Rattle.kit_base.specs.declared.history.Line.TheVariants as line
 use Rattle.kit_rules.specs.Parts.{Parts, federate_at}
 use Rattle.kit_rules.specs.Federation.{IsFederation}
@@ -14,22 +16,13 @@ use Rattle.kit_rules.specs.declared.scene.State.{State}
 use Rattle.kit_rules.specs.Step.{opening_state}
 use Rattle.kit_rules.proofs.Growth.{Grows, AreNumbered}
 use Rattle.kit_rules.proofs.Kept.{Kept, HasGroup}
-use Rattle.kit_base.specs.Order.{is_before, put}
+use Rattle.kit_base.specs.Order.{put}
 use Rattle.kit_rules.specs.Delivery.{is_due, due_messages}
 use Rattle.kit_rules.specs.Fits.{MessageFits, LineFits}
 use Rattle.kit_rules.specs.Simulation.{Seat, Block, World, next_grant, started, started_seat, seat_at, nobody_seated, granted_at, granted, granted_or_same, advanced, after_grants, simulated, block, block_lines, lines_of, is_spent, spender}
-use Rattle.kit_laws.proofs.Pendings.{all-append}
 use Rattle.kit_laws.proofs.Numbers.{gained}
 use Rattle.kit_laws.proofs.Worlds.{grows_by_grant, grows_by_start}
 use Rattle.kit_laws.proofs.Rising.{Reached, grants, kept_by_grant, kept_by_start, started_reached, granted_reached}
-
-pub all_filter : {X : Type 0} (P : X → Type 0) (p : X → Bool) (xs : List X) → AllByRecursion P xs → AllByRecursion P (filter p xs)
-all_filter P p [] h = tt
-all_filter P p (x ∷ xs) h = elim (p x) as (λ b. AllByRecursion P (cond b (x ∷ filter p xs) (filter p xs))) [ true ↦ (h.0, all_filter P p xs h.1) | false ↦ all_filter P p xs h.1 ]
-
-all_put : (P : Message → Type 0) (m : Message) (xs : List Message) → P m → AllByRecursion P xs → AllByRecursion P (put m xs)
-all_put P m [] h a = (h, tt)
-all_put P m (x ∷ xs) h a = elim (is_before m x) as (λ b. AllByRecursion P (cond b (m ∷ x ∷ xs) (x ∷ put m xs))) [ true ↦ (h, a) | false ↦ (a.0, all_put P m xs h a.1) ]
 
 pub all_in_order : (P : Message → Type 0) (acc xs : List Message) → AllByRecursion P acc → AllByRecursion P xs → AllByRecursion P (fold (λ (sorted : List Message) (m : Message). put m sorted) acc xs)
 all_in_order P acc [] a h = a
@@ -38,11 +31,6 @@ all_in_order P acc (x ∷ xs) a h = all_in_order P (put x acc) xs (all_put P x a
 all_map : {X Y : Type 0} (P : X → Type 0) (Q : Y → Type 0) (f : X → Y) (xs : List X) → ((x : X) → P x → Q (f x)) → AllByRecursion P xs → AllByRecursion Q (map f xs)
 all_map P Q f [] g h = tt
 all_map P Q f (x ∷ xs) g h = (g x h.0, all_map P Q f xs g h.1)
-
-all_drop : {X : Type 0} (P : X → Type 0) (n : ℕ) (xs : List X) → AllByRecursion P xs → AllByRecursion P (drop n xs)
-all_drop P zero xs h = h
-all_drop P (suc n) [] h = tt
-all_drop P (suc n) (x ∷ xs) h = all_drop P n xs h.1
 
 fits_of : (p : Parts) (sender n : ℕ) (ms : List Message) → sender < length p.federates → AreNumbered sender n ms → AllByRecursion (HasGroup (length p.groups)) ms → AllByRecursion (MessageFits p) ms
 fits_of p sender n [] lt a g = tt
@@ -127,11 +115,6 @@ simulated_fits p f =
 
 pub simulated_count : (p : Parts) → IsFederation p → length (simulated p).seats ≡ length p.federates
 simulated_count p f = (fit_after p (0, 0) (started p) (length p.federates * p.end) f (started_reached p f) (started_fit p f)).1.count
-
--- what is found in a list keeps what all keep
-all_found : (P : Message → Type 0) (q : Message → Bool) (ms : List Message) → AllByRecursion P ms → IfSome (find q ms) P
-all_found P q [] h = tt
-all_found P q (x ∷ xs) h = elim (q x) as (λ b. IfSome (cond b (Some x) (find q xs)) P) [ true ↦ h.0 | false ↦ all_found P q xs h.1 ]
 
 sender_within : (p : Parts) (o : Option Message) (i : ℕ) → IfSome o (MessageFits p) → option_map (λ (m : Message). m.sender) o ≡ Some i → i < length p.federates
 sender_within p None i h e = absurd (cc)

@@ -2,7 +2,6 @@
 use Rattle.std.proofs.Common.{◌≡◌, ℕ, ◌+◌, ◌<◌, ◌≤◌, List, [], ◌∷◌, ◌++◌, length, take, drop, get_or, arith, sym, ap, ◌∙◌, refl, add-one, drop-cons, length-take, length-append}
 use Rattle.std.proofs.lemmas.List.{append_assoc, take-append-drop, drop-append-le}
 use Rattle.kit_base.specs.declared.message.Message.{Message}
-use Rattle.kit_base.specs.declared.message.Kind.TheVariants.{Event}
 use Rattle.kit_rules.specs.Parts.{Parts}
 use Rattle.kit_rules.specs.declared.table.Trigger.TheVariants.{Got, Grant}
 use Rattle.kit_rules.specs.declared.scene.State.{State}
@@ -31,10 +30,6 @@ pub past_from_delivery : (p : Parts) (i d : ℕ) (s : State) (due : List Message
     → n < (stepped p i (Got (get_or due k x).group) d (get_or due k x).value s).next → n < (after_deliveries p i d s (drop k due)).next
 past_from_delivery p i d s due k n x h past =
     rw (delivery_step p i d s due k x h) (omega (arith, past, (grows_by_deliveries p i d (stepped p i (Got (get_or due k x).group) d (get_or due k x).value s) (drop (k + 1) due)).next))
-
--- what is read past a list's end
-abbrev pub no_message : Message
-no_message = record { time = 0; sender = 0; number = 0; kind = Event; group = 0; value = 0 }
 
 pub grows_longer : (i : ℕ) (a b : State) → Grows i a b → length a.sends ≤ length b.sends
 grows_longer i a b g = omega (arith, ap length g.sends, length-append a.sends g.made)

@@ -57,7 +57,7 @@ least_below best (x ∷ xs) g b h e =
     weaker None h le = tt
     weaker {n} {m} (Some a) h le = let l : m ≤ Rank a = h in let k : n ≤ Rank a = omega arith in k
 
-least_keeps : (P : ℕ × ℕ → Type 0) (best : Option (ℕ × ℕ)) (xs : List (ℕ × ℕ)) → IfSome best P → AllByRecursion P xs → IfSome (least best xs) P
+pub least_keeps : (P : ℕ × ℕ → Type 0) (best : Option (ℕ × ℕ)) (xs : List (ℕ × ℕ)) → IfSome best P → AllByRecursion P xs → IfSome (least best xs) P
 least_keeps P best [] b h = b
 least_keeps P best (x ∷ xs) b h = least_keeps P (Some (sooner best x)) xs (kept P best x b h.0) h.1
   where

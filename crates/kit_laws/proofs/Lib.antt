@@ -1,11 +1,12 @@
 pub mod Joins
 pub mod Numbers
 pub mod Worlds
-pub mod Sanity
 pub mod Pendings
 pub mod Least
+pub mod Sanity
 pub mod Rising
 pub mod OneRun
 pub mod Ascending
 pub mod Fitting
 pub mod Counting
+pub mod Needs

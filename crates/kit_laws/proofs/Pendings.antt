@@ -1,4 +1,5 @@
 -- What is pending while messages are sent and delivered, and when requests fall due.
+use Rattle.std.proofs.Math.Bool.{or-true}
 use Rattle.std.proofs.Common.{◌≡◌, ℕ, ◌+◌, ◌<◌, ◌≤◌, inl, inr, min, Bool, true, false, cond, not, ◌&&◌, ◌||◌, List, [], ◌∷◌, ◌++◌, filter, fold, nat_le, arith, refl, sym, subst, ap, ◌∙◌}
 use Rattle.std.specs.List.{AllByRecursion, list_any}
 use Rattle.std.proofs.lemmas.Bool.{and_parts, and_from, not-true, cases_Bool}
@@ -6,6 +7,7 @@ use Rattle.std.proofs.lemmas.Bool.Decides.{leb_tells}
 use Rattle.std.proofs.lemmas.Bool.{eq-eqb}
 use Rattle.std.proofs.lemmas.List.Elements.{filter-append}
 use Rattle.kit_base.specs.declared.message.Message.{Message}
+use Rattle.kit_base.proofs.Lists.{all-append, each_weaker}
 use Rattle.kit_rules.specs.declared.table.Request.{Request}
 use Rattle.kit_rules.specs.declared.table.Request.TheVariants as request
 use Rattle.kit_rules.specs.Parts.{Parts}
@@ -14,10 +16,6 @@ use Rattle.kit_rules.proofs.Kept.{Later}
 use Rattle.kit_base.specs.Order.{is_before, put}
 use Rattle.kit_rules.specs.Delivery.{is_pending, pending, is_transported, has_bit, receivers_of, is_same, retracts, is_due, due_messages, due_time}
 use Rattle.kit_laws.specs.Sane.{time_of}
-
-pub all-append : {X : Type 0} (P : X → Type 0) (xs ys : List X) → AllByRecursion P xs → AllByRecursion P ys → AllByRecursion P (xs ++ ys)
-all-append P [] ys a b = b
-all-append P (x ∷ xs) ys a b = (a.0, all-append P xs ys a.1 b)
 
 pub any_left : {X : Type 0} (p : X → Bool) (xs ys : List X) → list_any p (xs ++ ys) ≡ false → list_any p xs ≡ false
 any_left p [] ys h = refl
@@ -72,10 +70,6 @@ each_filtered Q p (x ∷ xs) h =
 each_sub : {X : Type 0} (Q : X → Type 0) (p q : X → Bool) (xs : List X) → ((x : X) → q x ≡ true → p x ≡ true) → AllByRecursion (λ x. p x ≡ true → Q x) xs → AllByRecursion (λ x. q x ≡ true → Q x) xs
 each_sub Q p q [] sub h = tt
 each_sub Q p q (x ∷ xs) sub h = ((λ e. h.0 (sub x e)), each_sub Q p q xs sub h.1)
-
-pub each_weaker : {X : Type 0} (P Q : X → Type 0) (xs : List X) → ((x : X) → P x → Q x) → AllByRecursion P xs → AllByRecursion Q xs
-each_weaker P Q [] f h = tt
-each_weaker P Q (x ∷ xs) f h = (f x h.0, each_weaker P Q xs f h.1)
 
 abbrev pub From : ℕ → Message → Type 0
 From b m = b ≤ m.time
@@ -146,21 +140,13 @@ any_in_order p acc (x ∷ xs) h =
 
     kept : (p : Message → Bool) (acc xs : List Message) → list_any p acc ≡ true → list_any p (fold (λ (sorted : List Message) (m : Message). put m sorted) acc xs) ≡ true
     kept p acc [] h = h
-    kept p acc (x ∷ xs) h = kept p (put x acc) xs (any_put p x acc ∙ ap (λ b. p x || b) h ∙ or_true (p x))
-      where
-        or_true : (a : Bool) → (a || true) ≡ true
-        or_true true = refl
-        or_true false = refl
+    kept p acc (x ∷ xs) h = kept p (put x acc) xs (any_put p x acc ∙ ap (λ b. p x || b) h ∙ or-true (p x))
 
 pub same_self : (m : Message) → is_same m m ≡ true
 same_self m = and_from _ _ (and_from _ _ (eq-eqb m.time m.time refl) (eq-eqb m.sender m.sender refl)) (eq-eqb m.number m.number refl)
 
 pub any_filter_more : (p d : Message → Bool) (x : Message) (xs : List Message) → list_any p (filter d xs) ≡ true → list_any p (filter d (x ∷ xs)) ≡ true
-any_filter_more p d x xs h = elim (d x) as (λ b. list_any p (cond b (x ∷ filter d xs) (filter d xs)) ≡ true) [ true ↦ ap (λ b. p x || b) h ∙ or_true (p x) | false ↦ h ]
-  where
-    or_true : (a : Bool) → (a || true) ≡ true
-    or_true true = refl
-    or_true false = refl
+any_filter_more p d x xs h = elim (d x) as (λ b. list_any p (cond b (x ∷ filter d xs) (filter d xs)) ≡ true) [ true ↦ ap (λ b. p x || b) h ∙ or-true (p x) | false ↦ h ]
 
 pub any_filter_here : (p d : Message → Bool) (x : Message) (xs : List Message) → d x ≡ true → p x ≡ true → list_any p (filter d (x ∷ xs)) ≡ true
 any_filter_here p d x xs e h = rw e (ap (λ b. b || list_any p (filter d xs)) h)

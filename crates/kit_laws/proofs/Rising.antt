@@ -6,6 +6,7 @@ use Rattle.std.proofs.lemmas.List.{get_or-set_other, get_or-set_same}
 use Rattle.std.proofs.lemmas.List.FromFn.{get_or-map-range_with_len, length-map-range_with_len}
 use Rattle.std.proofs.Math.Seq.{drop-append_seam}
 use Rattle.kit_base.specs.declared.message.Message.{Message}
+use Rattle.kit_base.proofs.Lists.{all-append, each_weaker}
 use Rattle.kit_rules.specs.declared.table.Wish.{Wish}
 use Rattle.kit_rules.specs.declared.table.Wish.TheVariants as wish
 use Rattle.kit_rules.specs.declared.table.Trigger.TheVariants.{Start, Grant, Got}
@@ -18,7 +19,7 @@ use Rattle.kit_rules.specs.Delivery.{pending, is_pending, due_messages, due_time
 use Rattle.kit_laws.specs.Sane.{time_of}
 use Rattle.kit_rules.specs.Simulation.{Seat, World, sooner, request_at, seat_due, waiting_from, is_sooner, least, next_grant, started, started_seat, seat_at, nobody_seated, granted_at, granted, granted_seat, granted_or_same, advanced, after_grants, after_deliveries, simulated}
 use Rattle.kit_laws.proofs.Least.{Rank, next_stands, next_least, sooner_rank}
-use Rattle.kit_laws.proofs.Pendings.{From, pending_event, pending_from, due_from, due_capped, due_stays, gone, filter_each, each_weaker, all-append}
+use Rattle.kit_laws.proofs.Pendings.{From, pending_event, pending_from, due_from, due_capped, due_stays, gone, filter_each}
 use Rattle.kit_laws.proofs.Sanity.{granted_capped, request_capped}
 
 pub record SeatOk (p : Parts) (last : ℕ × ℕ) (sent : List Message) (i : ℕ) (s : Seat) : Type 0 where
@@ -46,8 +47,9 @@ kept_by_grant p w g f lt =
     let s = (seat_at w g.1).state in
     kept_more (length p.groups) g.0 _ _ _ (kept_by_deliveries p g.1 g.0 s due f lt) (kept_by_step p g.1 Grant g.0 0 (after_deliveries p g.1 g.0 s due) f lt)
 
-made_later : (groups d : ℕ) (a b : State) → Kept groups d a b → AllByRecursion (Later d) (drop (length a.sends) b.sends)
-made_later groups d a b k =
+-- what a state gained is timed after d
+gained_later : (groups d : ℕ) (a b : State) → Kept groups d a b → AllByRecursion (Later d) (drop (length a.sends) b.sends)
+gained_later groups d a b k =
     let P : List Message → Type 0 = AllByRecursion (Later d) in
     subst P (sym (ap (drop (length a.sends)) k.sends ∙ drop-append_seam a.sends k.made)) k.later
 
@@ -68,7 +70,7 @@ granted_here p last w g f lt ok cap =
     let new = granted_at p w g in
     let k = kept_by_grant p w g f lt in
     let made = drop (length old.state.sends) new.state.sends in
-    let late : AllByRecursion (From (g.0 + 1)) (pending p g.1 new.got (w.messages ++ made)) = gone p g.1 g.0 old.got w.messages made (made_later (length p.groups) g.0 old.state new.state k) in
+    let late : AllByRecursion (From (g.0 + 1)) (pending p g.1 new.got (w.messages ++ made)) = gone p g.1 g.0 old.got w.messages made (gained_later (length p.groups) g.0 old.state new.state k) in
     let wish : IsWish new.state.wish = k.wish ok.wish in
     record {
       now_last = omega arith;
@@ -90,7 +92,7 @@ granted_there p last w g j f lt few within count ne rises next ok =
     let old = seat_at w g.1 in
     let new = granted_at p w g in
     let made = drop (length old.state.sends) new.state.sends in
-    let late = made_later (length p.groups) g.0 old.state new.state (kept_by_grant p w g f lt) in
+    let late = gained_later (length p.groups) g.0 old.state new.state (kept_by_grant p w g f lt) in
     let up : last.0 ≤ g.0 = omega arith in
     record {
       now_last = omega (arith, ok.now_last);
@@ -155,7 +157,7 @@ pub kept_by_start : (p : Parts) (i : ℕ) → IsFederation p → i < length p.fe
 kept_by_start p i f lt = kept_by_step p i Start 0 0 (opening_state (federate_at p i)) f lt
 
 start_later : (p : Parts) (i : ℕ) → IsFederation p → i < length p.federates → AllByRecursion (Later 0) (started_seat p i).state.sends
-start_later p i f lt = made_later (length p.groups) 0 (opening_state (federate_at p i)) (started_seat p i).state (kept_by_start p i f lt)
+start_later p i f lt = gained_later (length p.groups) 0 (opening_state (federate_at p i)) (started_seat p i).state (kept_by_start p i f lt)
 
 starts_later : (p : Parts) (a n : ℕ) → IsFederation p → a + n ≤ length p.federates → AllByRecursion (λ (s : Seat). AllByRecursion (Later 0) s.state.sends) (map (started_seat p) (range_with_len a n))
 starts_later p a zero f le = tt

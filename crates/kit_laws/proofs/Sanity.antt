@@ -1,29 +1,21 @@
 -- Requests that stay within the end, and grants that go to a federate there is.
-use Rattle.std.proofs.Common.{◌≡◌, ℕ, ◌+◌, ◌<◌, ◌≤◌, min, true, false, cond, List, [], ◌∷◌, length, fold, Option, Some, None, IfSome, nat_lt, arith, sym, subst, ◌∙◌, length-set}
+use Rattle.std.proofs.Common.{◌≡◌, ℕ, ◌+◌, ◌<◌, ◌≤◌, true, false, cond, List, [], ◌∷◌, length, Option, Some, None, IfSome, nat_lt, arith, sym, subst, ◌∙◌, length-set}
 use Rattle.std.specs.List.{All, AllByRecursion}
 use Rattle.std.proofs.lemmas.List.Elements.{All-set, All-head, All-tail}
 use Rattle.std.proofs.lemmas.List.FromFn.{get_or-map-range_with_len, length-map-range_with_len}
 use Rattle.kit_base.specs.declared.message.Message.{Message}
 use Rattle.kit_rules.specs.declared.table.Wish.{Wish}
 use Rattle.kit_rules.specs.declared.table.Wish.TheVariants as wish
-use Rattle.kit_rules.specs.declared.table.Request.{Request}
-use Rattle.kit_rules.specs.declared.table.Request.TheVariants as request
 use Rattle.kit_rules.specs.Parts.{Parts}
-use Rattle.kit_rules.specs.Delivery.{due_time, pending}
+use Rattle.kit_rules.specs.Delivery.{pending}
 use Rattle.kit_laws.specs.Sane.{IsSane, time_of}
-use Rattle.kit_rules.specs.Simulation.{Seat, World, request_at, seat_due, waiting_from, is_sooner, sooner, least, started, started_seat, seat_at, granted_at, granted, granted_seat}
+use Rattle.kit_laws.proofs.Pendings.{due_capped}
+use Rattle.kit_laws.proofs.Least.{least_keeps}
+use Rattle.kit_rules.specs.Simulation.{Seat, World, request_at, seat_due, waiting_from, least, started, started_seat, seat_at, granted_at, granted, granted_seat}
 
 pub request_capped : (w : Wish) (now end : ℕ) → time_of (request_at w now end) ≤ end
 request_capped (wish.Tar step) now end = omega arith
 request_capped (wish.Ner step) now end = omega arith
-
-earliest_capped : (t : ℕ) (ms : List Message) → fold (λ (t : ℕ) (m : Message). min t m.time) t ms ≤ t
-earliest_capped t [] = omega arith
-earliest_capped t (m ∷ ms) = omega (arith, earliest_capped (min t m.time) ms)
-
-due_capped : (r : Request) (ms : List Message) → due_time r ms ≤ time_of r
-due_capped (request.Tar t) ms = omega arith
-due_capped (request.Ner t) ms = earliest_capped t ms
 
 abbrev Fine : ℕ → ℕ → ℕ × ℕ → Type 0
 Fine n end g = (g.1 < n) × (g.0 ≤ end)
@@ -35,14 +27,6 @@ waiting_fine p sent i n (s ∷ ss) le h =
     let rest : AllByRecursion (Fine n p.end) (waiting_from p sent (i + 1) ss) = waiting_fine p sent (i + 1) n ss (omega arith) (All-tail (λ (s : Seat). time_of s.request ≤ p.end) s ss h) in
     elim (nat_lt s.now p.end) as (λ b. AllByRecursion (Fine n p.end) (cond b ((seat_due p sent i s, i) ∷ waiting_from p sent (i + 1) ss) (waiting_from p sent (i + 1) ss)))
     [ true ↦ ((omega arith, omega (arith, capped, due_capped s.request (pending p i s.got sent))), rest) | false ↦ rest ]
-
-sooner_keeps : (P : ℕ × ℕ → Type 0) (best : Option (ℕ × ℕ)) (x : ℕ × ℕ) → IfSome best P → P x → P (sooner best x)
-sooner_keeps P None x b h = h
-sooner_keeps P (Some a) x b h = elim (is_sooner x a) as (λ t. P (cond t x a)) [ true ↦ h | false ↦ b ]
-
-least_keeps : (P : ℕ × ℕ → Type 0) (best : Option (ℕ × ℕ)) (xs : List (ℕ × ℕ)) → IfSome best P → AllByRecursion P xs → IfSome (least best xs) P
-least_keeps P best [] b h = b
-least_keeps P best (x ∷ xs) b h = least_keeps P (Some (sooner best x)) xs (sooner_keeps P best x b h.0) h.1
 
 pub next_fine : (p : Parts) (sent : List Message) (ss : List Seat) (g : ℕ × ℕ) → IsSane p ss → least None (waiting_from p sent 0 ss) ≡ Some g → (g.1 < length ss) × (g.0 ≤ p.end)
 next_fine p sent ss g sane is =

@@ -1,8 +1,9 @@
 -- Laws of the sequential simulation.
-use Rattle.std.specs.Prelude.{◌≡◌, ℕ, ◌+◌, ◌*◌, ◌<◌, ◌≤◌, false, IsTrue, List, [], ◌∷◌, length, map, Some, None}
+use Rattle.std.specs.Prelude.{◌≡◌, ◌≢◌, ◌⊎◌, ℕ, ◌+◌, ◌*◌, ◌<◌, ◌≤◌, false, IsTrue, List, [], ◌∷◌, length, map, Some, None}
 use Rattle.std.specs.List.{All, AllByRecursion}
 use Rattle.kit_rules.specs.Parts.{Parts}
 use Rattle.kit_rules.specs.Federation.{IsFederation}
+use Rattle.kit_rules.specs.Need.{outstanding, need_of}
 use Rattle.kit_rules.specs.Simulation.{Seat, Block, World, seat_at, seat_due, is_sooner, next_grant, started, granted, after_grants, simulated}
 
 -- each grant comes after the one before it, by due time and then by federate
@@ -59,3 +60,23 @@ BlocksAscend = (p : Parts) → IsFederation p → Ascend (grants_of (simulated p
 -- there are at most as many grants as federates times the end
 abbrev pub FewGrants : Type 0
 FewGrants = (p : Parts) → length (simulated p).blocks ≤ length p.federates * p.end
+
+-- the grant of another federate leaves what one has outstanding
+abbrev pub OutstandingStays : Type 0
+OutstandingStays = (p : Parts) (i : ℕ) (w : World) (g : ℕ × ℕ) → i ≢ g.1 → outstanding p i (granted p w g) ≡ outstanding p i w
+
+-- after n grants: the start, or right after a grant of federate i
+abbrev pub IsOwnMoment : Parts → ℕ → ℕ → Type 0
+IsOwnMoment p i n = (n ≡ 0) ⊎ ((k : ℕ) × (d : ℕ) × (n ≡ k + 1) × (next_grant p (after_grants p k (started p)) ≡ Some (d, i)))
+
+-- the need of federate i is what it has outstanding at one of these moments, and at none it has more
+pub record IsNeed (p : Parts) (i need : ℕ) : Type 0 where
+  pub none_more : (n : ℕ) → n ≤ length p.federates * p.end → IsOwnMoment p i n → outstanding p i (after_grants p n (started p)) ≤ need
+  pub moment : ℕ
+  pub within : moment ≤ length p.federates * p.end
+  pub own : IsOwnMoment p i moment
+  pub reached : outstanding p i (after_grants p moment (started p)) ≡ need
+
+-- so the need is the greatest number over the start and the federate's own grants
+abbrev pub NeedIsGreatest : Type 0
+NeedIsGreatest = (p : Parts) (i : ℕ) → IsNeed p i (need_of p i)

@@ -1,6 +1,6 @@
 //! Laws of the sequential simulation: each is the contract of a function that does nothing.
 
-ghost use Rattle.kit_laws.specs.Laws.{GrantsRise, GrantsEnd, FewGrants, LastGrants, OneSimulation, BlocksAscend};
+ghost use Rattle.kit_laws.specs.Laws.{GrantsRise, GrantsEnd, FewGrants, LastGrants, OneSimulation, BlocksAscend, OutstandingStays, NeedIsGreatest};
 
 /// Of two grants that follow each other the second has the later due time, or the same and the
 /// greater federate.
@@ -31,4 +31,15 @@ pub fn one_simulation()
 /// The grants stand in the order of time and federate, each before those behind it.
 pub fn blocks_ascend()
     ensures { BlocksAscend }
+{}
+
+/// The grant of another federate leaves the number of transported messages that one has sent and
+/// that are later than its time.
+pub fn outstanding_stays()
+    ensures { OutstandingStays }
+{}
+
+/// The need of a federate is the greatest such number at the start and after its own grants.
+pub fn need_is_greatest()
+    ensures { NeedIsGreatest }
 {}

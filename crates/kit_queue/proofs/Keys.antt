@@ -9,6 +9,8 @@ use Rattle.std.proofs.lemmas.Bool.{and_parts}
 use Rattle.std.proofs.lemmas.Cmp.{nat_cmp_total, on_total, then_total, nat_eq_equiv}
 use Rattle.kit_base.specs.Order.{key_cmp, is_before, put}
 use Rattle.kit_base.specs.declared.message.Message.{Message}
+use Rattle.kit_base.proofs.Lists.{all_filter, each_weaker}
+use Rattle.kit_base.proofs.Orders.{all_put}
 use Rattle.kit_queue.specs.Entries.{shares_number}
 
 -- keys are totally ordered
@@ -28,24 +30,9 @@ equal_shares a b e =
 shares_flip : (a b : Message) → shares_number a b ≡ shares_number b a
 shares_flip a b = ap (λ t. t && (b.number == a.number)) (nat_eq_equiv.symm b.sender a.sender) ∙ ap (λ t. (a.sender == b.sender) && t) (nat_eq_equiv.symm b.number a.number)
 
--- what holds of each holds of each that passes a test
-all_filter : {X : Type 0} (P : X → Type 0) (p : X → Bool) (xs : List X) → AllByRecursion P xs → AllByRecursion P (filter p xs)
-all_filter P p [] h = tt
-all_filter P p (x ∷ xs) h = elim (p x) as (λ b. AllByRecursion P (cond b (x ∷ filter p xs) (filter p xs))) [ true ↦ (h.0, all_filter P p xs h.1) | false ↦ all_filter P p xs h.1 ]
-
--- what holds of a message and of each of a list holds of each once it is put there
-all_put : (P : Message → Type 0) (m : Message) (xs : List Message) → P m → AllByRecursion P xs → AllByRecursion P (put m xs)
-all_put P m [] h a = (h, tt)
-all_put P m (x ∷ xs) h a = elim (is_before m x) as (λ b. AllByRecursion P (cond b (m ∷ x ∷ xs) (x ∷ put m xs))) [ true ↦ (h, a) | false ↦ (a.0, all_put P m xs h a.1) ]
-
--- what follows from a fact of each holds of each
-all_weaken : {X : Type 0} (P Q : X → Type 0) → ((x : X) → P x → Q x) → (xs : List X) → AllByRecursion P xs → AllByRecursion Q xs
-all_weaken P Q f [] h = tt
-all_weaken P Q f (x ∷ xs) h = (f x h.0, all_weaken P Q f xs h.1)
-
 -- a message before another is before all that come after that one
 before_all : (m x : Message) (xs : List Message) → key_cmp m x ≡ Less → AllByRecursion (λ y. key_cmp x y ≡ Less) xs → AllByRecursion (λ y. key_cmp m y ≡ Less) xs
-before_all m x xs e h = all_weaken (λ y. key_cmp x y ≡ Less) (λ y. key_cmp m y ≡ Less) (λ y l. key_cmp_total.trans m x y e l) xs h
+before_all m x xs e h = each_weaker (λ y. key_cmp x y ≡ Less) (λ y. key_cmp m y ≡ Less) xs (λ y l. key_cmp_total.trans m x y e l) h
 
 -- a message of a new number, put in its place, leaves the keys in strict order
 pub sorted_put : (m : Message) (xs : List Message) → AllByRecursion (λ y. shares_number m y ≡ false) xs → IsStrictlySortedBy key_cmp xs → IsStrictlySortedBy key_cmp (put m xs)

@@ -6,6 +6,7 @@ use Rattle.std.proofs.lemmas.Bool.{and_parts, and_from, eq-eqb, eqb-true, ne_eqb
 use Rattle.std.proofs.lemmas.Bool.Decides.{eqb_tells}
 use Rattle.std.proofs.lemmas.List.Folds.{list_any-append}
 use Rattle.kit_base.specs.declared.message.Message.{Message}
+use Rattle.kit_base.proofs.Lists.{all-append, each_weaker}
 use Rattle.kit_rules.specs.declared.table.Action.{Action}
 use Rattle.kit_rules.specs.declared.table.Action.TheVariants as action
 use Rattle.kit_rules.specs.declared.table.Trigger.{Trigger}
@@ -32,16 +33,6 @@ Under n x = x.number < n
 pub record Aimed (s : State) : Type 0 where
   pub under : AllByRecursion (Under s.next) s.sends
   pub aims : AllByRecursion (Aims s.sends) s.sends
-
--- what follows for each element follows for all
-weaker : (P Q : Message → Type 0) (xs : List Message) → ((x : Message) → P x → Q x) → AllByRecursion P xs → AllByRecursion Q xs
-weaker P Q [] f h = tt
-weaker P Q (x ∷ xs) f h = (f x h.0, weaker P Q xs f h.1)
-
--- what holds of each of two lists holds of both together
-all-append : (P : Message → Type 0) (xs ys : List Message) → AllByRecursion P xs → AllByRecursion P ys → AllByRecursion P (xs ++ ys)
-all-append P [] ys a b = b
-all-append P (x ∷ xs) ys a b = (a.0, all-append P xs ys a.1 b)
 
 -- one of two tests is enough
 or_true : (a : Bool) → (a || true) ≡ true
@@ -108,8 +99,8 @@ aimed_by_action scene s a h =
     let made = option_to_list (message_of scene s a) in
     let up : (r : Message) → Aims s.sends r → Aims (s.sends ++ made) r = λ r f e. (any_more (is_aim r) s.sends made (f e).0, (f e).1) in
     record {
-      under = all-append (Under (s.next + length made)) s.sends made (weaker (Under s.next) (Under (s.next + length made)) s.sends (λ x u. omega arith) h.under) (made_under scene s a);
-      aims = all-append (Aims (s.sends ++ made)) s.sends made (weaker (Aims s.sends) (Aims (s.sends ++ made)) s.sends up h.aims) (weaker (Aims s.sends) (Aims (s.sends ++ made)) made up (made_aims scene s a h));
+      under = all-append (Under (s.next + length made)) s.sends made (each_weaker (Under s.next) (Under (s.next + length made)) s.sends (λ x u. omega arith) h.under) (made_under scene s a);
+      aims = all-append (Aims (s.sends ++ made)) s.sends made (each_weaker (Aims s.sends) (Aims (s.sends ++ made)) s.sends up h.aims) (each_weaker (Aims s.sends) (Aims (s.sends ++ made)) made up (made_aims scene s a h));
     }
 
 -- and so do several

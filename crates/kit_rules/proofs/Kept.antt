@@ -1,10 +1,11 @@
 -- What rule steps of a federation keep: steps of requests, groups of messages, and times after now.
-use Rattle.std.proofs.Common.{◌≡◌, ℕ, Bool, true, false, cond, ◌&&◌, ◌<◌, ◌≤◌, List, [], ◌∷◌, ◌++◌, length, get_or, find, Option, Some, None, IfSome, arith, refl, sym, ap, ◌∙◌}
+use Rattle.std.proofs.Common.{◌≡◌, ℕ, true, false, cond, ◌&&◌, ◌<◌, ◌≤◌, List, [], ◌∷◌, ◌++◌, length, get_or, find, Option, Some, None, IfSome, arith, refl, sym, ap, ◌∙◌}
 use Rattle.std.specs.List.{All, AllByRecursion}
 use Rattle.std.specs.Option.{option_to_list, option_map}
 use Rattle.std.proofs.lemmas.List.{append_assoc, append-nil}
 use Rattle.std.proofs.lemmas.List.Elements.{All-head, All-tail}
 use Rattle.kit_base.specs.declared.message.Message.{Message}
+use Rattle.kit_base.proofs.Lists.{all-append, all_found}
 use Rattle.kit_rules.specs.declared.table.Action.{Action}
 use Rattle.kit_rules.specs.declared.table.Action.TheVariants as action
 use Rattle.kit_rules.specs.declared.table.Trigger.{Trigger}
@@ -14,16 +15,6 @@ use Rattle.kit_rules.specs.Federation.{IsFederation, IsRule, IsAction, IsWish}
 use Rattle.kit_rules.specs.declared.scene.Scene.{Scene}
 use Rattle.kit_rules.specs.declared.scene.State.{State}
 use Rattle.kit_rules.specs.Step.{is_event, message_of, retraction_of, is_target, after_action, after_actions, after_rule, after_rules, same_trigger, conditions_hold, scene_of, stepped}
-
--- what holds of each of two lists holds of both together
-all-append : {X : Type 0} (P : X → Type 0) (xs ys : List X) → AllByRecursion P xs → AllByRecursion P ys → AllByRecursion P (xs ++ ys)
-all-append P [] ys a b = b
-all-append P (x ∷ xs) ys a b = (a.0, all-append P xs ys a.1 b)
-
--- what holds of each element holds of one that is found
-find_keeps : {X : Type 0} (P : X → Type 0) (p : X → Bool) (xs : List X) → AllByRecursion P xs → IfSome (find p xs) P
-find_keeps P p [] h = tt
-find_keeps P p (x ∷ xs) h = elim (p x) as (λ b. IfSome (cond b (Some x) (find p xs)) P) [ true ↦ h.0 | false ↦ find_keeps P p xs h.1 ]
 
 -- an Event is timed after d
 abbrev pub Later : ℕ → Message → Type 0
@@ -82,7 +73,7 @@ made_fits scene groups vars s (action.Add v by) h f = tt
 made_fits scene groups vars s (action.Sub v by) h f = tt
 made_fits scene groups vars s (action.Send g d x k) h f = (h.0, tt)
 made_fits scene groups vars s (action.Retract v) h f =
-    retraction_fits scene s groups (find (is_target scene s.sends (get_or s.vars v 0)) s.sends) (find_keeps (HasGroup groups) (is_target scene s.sends (get_or s.vars v 0)) s.sends f)
+    retraction_fits scene s groups (find (is_target scene s.sends (get_or s.vars v 0)) s.sends) (all_found (HasGroup groups) (is_target scene s.sends (get_or s.vars v 0)) s.sends f)
 made_fits scene groups vars s (action.Tar n) h f = tt
 made_fits scene groups vars s (action.Ner n) h f = tt
 

@@ -1,12 +1,11 @@
 -- What steps leave of a state.
-use Rattle.std.proofs.Common.{◌≡◌, ℕ, suc, true, false, cond, ◌&&◌, ◌+◌, ◌<◌, ◌≤◌, List, [], ◌∷◌, length, drop, get_or, arith, drop-cons, length-append}
+use Rattle.std.proofs.Common.{◌≡◌, ℕ, suc, true, false, cond, ◌&&◌, ◌<◌, ◌≤◌, List, [], ◌∷◌, length, drop, get_or, arith, drop-cons}
 use Rattle.kit_rules.specs.declared.table.Action.{Action}
 use Rattle.kit_rules.specs.declared.table.Trigger.{Trigger}
 use Rattle.kit_rules.specs.declared.table.Rule.{Rule}
 use Rattle.kit_rules.specs.declared.scene.Scene.{Scene}
 use Rattle.kit_rules.specs.declared.scene.State.{State}
-use Rattle.std.specs.Option.{option_to_list}
-use Rattle.kit_rules.specs.Step.{message_of, after_action, after_actions, after_rule, after_rules, same_trigger, conditions_hold}
+use Rattle.kit_rules.specs.Step.{after_action, after_actions, after_rule, after_rules, same_trigger, conditions_hold}
 
 -- the next number does not fall
 pub next_grows : (scene : Scene) (s : State) (as' : List Action) → s.next ≤ (after_actions scene s as').next
@@ -33,20 +32,3 @@ next_grows_by_rules scene on s (r ∷ rs) = omega (arith, next_grows_by_rule sce
 pub past_from_rule : (scene : Scene) (on : Trigger) (s : State) (rs : List Rule) (i n : ℕ) (r : Rule) → i < length rs → r ≡ get_or rs i r → n < (after_rule scene on s r).next → n < (after_rules scene on s (drop i rs)).next
 past_from_rule scene on s rs i n r h is past =
     rw (drop-cons rs i r h, ← is) (omega (arith, past, next_grows_by_rules scene on (after_rule scene on s r) (drop (suc i) rs)))
-
--- the next number stays one above the number of sends
-pub counted_by_actions : (scene : Scene) (s : State) (as' : List Action) → s.next ≡ length s.sends + 1 → (after_actions scene s as').next ≡ length (after_actions scene s as').sends + 1
-counted_by_actions scene s [] h = h
-counted_by_actions scene s (a ∷ as') h =
-    counted_by_actions scene (after_action scene s a) as' (omega (arith, h, length-append s.sends (option_to_list (message_of scene s a))))
-
--- and so by a rule
-pub counted_by_rule : (scene : Scene) (on : Trigger) (s : State) (r : Rule) → s.next ≡ length s.sends + 1 → (after_rule scene on s r).next ≡ length (after_rule scene on s r).sends + 1
-counted_by_rule scene on s r h =
-    elim (same_trigger r.on on && conditions_hold scene s.vars r.conds) as (λ b. (cond b (after_actions scene s r.actions) s).next ≡ length (cond b (after_actions scene s r.actions) s).sends + 1)
-    [ true ↦ counted_by_actions scene s r.actions h | false ↦ h ]
-
--- and so by several
-pub counted_by_rules : (scene : Scene) (on : Trigger) (s : State) (rs : List Rule) → s.next ≡ length s.sends + 1 → (after_rules scene on s rs).next ≡ length (after_rules scene on s rs).sends + 1
-counted_by_rules scene on s [] h = h
-counted_by_rules scene on s (r ∷ rs) h = counted_by_rules scene on (after_rule scene on s r) rs (counted_by_rule scene on s r h)

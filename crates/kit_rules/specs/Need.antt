@@ -1,5 +1,6 @@
 -- How large a federate's pool must be.
 use Rattle.std.specs.Prelude.{ℕ, zero, suc, ◌*◌, ◌==◌, nat_lt, max, Bool, ◌&&◌, List, [], ◌∷◌, length, map, fold, count_by}
+use Rattle.std.specs.List.{range_with_len}
 use Rattle.kit_base.specs.declared.message.Message.{Message}
 use Rattle.kit_rules.specs.Parts.{Parts}
 use Rattle.kit_rules.specs.Delivery.{is_transported}
@@ -18,6 +19,14 @@ abbrev pub worlds_from : Parts → ℕ → World → List World
 worlds_from p zero w = w ∷ []
 worlds_from p (suc n) w = w ∷ worlds_from p n (advanced p w)
 
--- the greatest number that a federate has outstanding, at the start and after a grant
+-- the most that a federate has outstanding in one of these worlds
+abbrev pub most_outstanding : Parts → ℕ → List World → ℕ
+most_outstanding p i ws = fold max 0 (map (outstanding p i) ws)
+
+-- the most that a federate has outstanding, at the start and after a grant
 abbrev pub need_of : Parts → ℕ → ℕ
-need_of p i = fold max 0 (map (outstanding p i) (worlds_from p (length p.federates * p.end) (started p)))
+need_of p i = most_outstanding p i (worlds_from p (length p.federates * p.end) (started p))
+
+-- the need of each federate
+abbrev pub needs_of : Parts → List ℕ
+needs_of p = map (need_of p) (range_with_len 0 (length p.federates))

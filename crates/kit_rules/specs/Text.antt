@@ -1,12 +1,13 @@
--- The text of a history.
-use Rattle.std.specs.Prelude.{ℕ, List, [], ◌∷◌, ◌++◌, codes, decimal}
-use Rattle.std.specs.List.{flat_map}
+-- The texts of a history and of needs.
+use Rattle.std.specs.Prelude.{ℕ, nat_le, Bool, if◌then◌else◌, List, [], ◌∷◌, ◌++◌, codes, decimal}
+use Rattle.std.specs.List.{flat_map, list_all}
 use Rattle.kit_base.specs.declared.message.Message.{Message}
 use Rattle.kit_base.specs.declared.history.Line.{Line}
 use Rattle.kit_base.specs.declared.history.Line.TheVariants.{Deliver, Grant}
 use Rattle.kit_rules.specs.declared.table.Var.{Var}
 use Rattle.kit_rules.specs.declared.table.Federate.{Federate}
 use Rattle.kit_rules.specs.Parts.{Parts, federate_at, group_at}
+use Rattle.kit_rules.specs.Need.{needs_of}
 use Rattle.kit_rules.specs.Simulation.{lines_of, closing_vars, simulated}
 
 -- where a message comes from
@@ -45,3 +46,29 @@ history_text p lines vars = flat_map (line_text p) lines ++ closings_text p.fede
 -- the text of the sequential simulation
 abbrev pub simulation_text : Parts → List ℕ
 simulation_text p = history_text p (lines_of (simulated p).blocks) (closing_vars (simulated p))
+
+-- how many buffers a federate needs
+abbrev pub need_line : Federate → ℕ → List ℕ
+need_line f need = codes "need " ++ f.name ++ codes " " ++ decimal need ++ codes "\n"
+
+-- how many each federate needs
+abbrev pub need_lines : List Federate → List ℕ → List ℕ
+need_lines [] needs = []
+need_lines (f ∷ fs) [] = []
+need_lines (f ∷ fs) (n ∷ ns) = need_line f n ++ need_lines fs ns
+
+-- whether so many buffers are at least every need
+abbrev pub are_enough : ℕ → List ℕ → Bool
+are_enough buffers needs = list_all (λ n. nat_le n buffers) needs
+
+-- how many buffers each federate has, and whether that is enough
+abbrev pub buffers_line : ℕ → Bool → List ℕ
+buffers_line buffers enough = codes "buffers " ++ decimal buffers ++ (if enough then codes " enough\n" else codes " short\n")
+
+-- the text of these needs
+abbrev pub need_text : Parts → List ℕ → List ℕ
+need_text p needs = need_lines p.federates needs ++ buffers_line p.buffers (are_enough p.buffers needs)
+
+-- the text of the needs of a federation
+abbrev pub check_text : Parts → List ℕ
+check_text p = need_text p (needs_of p)

@@ -75,8 +75,9 @@ impl FedState {
     }
 
     /// All that was sent, in the order of the numbers.
-    pub(crate) fn sends(&self) -> &[Message]
-        ensures { result.now ≡ self.now.sends }
+    pub fn sends(&self) -> &[Message]
+        ensures sends { result.now ≡ self.now.sends }
+        ensures few { length self.now.sends ≤ 16384 }
     {
         self.state.sends.as_slice()
     }
