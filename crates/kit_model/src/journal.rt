@@ -1,0 +1,112 @@
+ghost use Rattle.std.specs.Prelude.{◌≡◌, ◌<◌, ◌≤◌, ◌+◌, [], ◌∷◌, ◌++◌, OnOk, OnErr};
+
+use kit_base::Message;
+use std::alloc::{AllocError, Global};
+use std::marker::Model;
+
+/// One thing that happened to a federate.
+#[derive(Clone, Copy, Debug, PartialEq, Eq)]
+pub enum JournalEntry {
+    /// A copy of a message arrived; a Retraction is a message too.
+    Received {
+        /// The message.
+        message: Message,
+    },
+    /// An Event was given to the federate's rules.
+    Delivered {
+        /// The time of the grant with which it was delivered: the message's own time or a later one.
+        granted: u64,
+        /// The Event.
+        message: Message,
+    },
+    /// The federate's request to advance was granted.
+    Granted {
+        /// Its new logical time.
+        time: u64,
+    },
+}
+
+/// What happened to a federate, in order.
+///
+/// Contracts see a journal as the list `entries` and the number `spare`, which says for how many more
+/// entries memory is set aside. Only `reserve` takes memory.
+#[derive(Debug, Drop)]
+pub struct Journal {
+    entries: Vec<JournalEntry>,
+    /// For how many more entries memory is set aside.
+    reserved: usize,
+}
+
+impl Model for Journal {
+    ghost use Rattle.std.specs.Prelude.{◌≤◌, ◌+◌, length, vec_capacity};
+    ghost use Rattle.kit_model.specs.Journals.{JournalState};
+
+    ghost Value = { JournalState };
+
+    ghost view = { λ j. record { entries = j.entries.items; spare = j.reserved } };
+
+    ghost invariant = { λ j. length j.entries.items + j.reserved ≤ vec_capacity j.entries };
+}
+
+impl Journal {
+    /// A journal with no entry.
+    pub fn empty(alloc: Global) -> Journal
+        ensures entries { result.entries ≡ [] }
+        ensures spare { result.spare ≡ 0 }
+    {
+        Journal {
+            entries: Vec::new(alloc),
+            reserved: 0,
+        }
+    }
+
+    /// Sets memory aside for `more` further entries. It fails only for want of memory.
+    pub fn reserve(&mut self, more: usize) -> Result<(), AllocError>
+        ensures ok { OnOk result (more ≤ self.new.spare) }
+        ensures same { self.new.entries ≡ self.old.entries }
+        ensures kept { self.old.spare ≤ self.new.spare }
+        ensures err { OnErr result (self.new ≡ self.old) }
+    {
+        self.entries.reserve(more)?;
+        self.reserved = self.reserved.max(more);
+        Ok(())
+    }
+
+    /// Adds an entry at the end, in memory that was set aside.
+    pub fn push(&mut self, entry: JournalEntry)
+        requires { 0 < self.old.spare }
+        ensures entries { self.new.entries ≡ self.old.entries ++ entry ∷ [] }
+        ensures spent { self.new.spare + 1 ≡ self.old.spare }
+    {
+        // There is room, so the push succeeds.
+        let _ = self.entries.push(entry);
+        self.reserved -= 1;
+    }
+
+    /// The entries, in the order in which they were added.
+    pub fn entries(&self) -> &[JournalEntry]
+        ensures { result.now ≡ self.now.entries }
+    {
+        self.entries.as_slice()
+    }
+}
+
+#[cfg(test)]
+mod tests {
+    use super::*;
+    use std::test::Fail;
+
+    #[test]
+    fn keeps_what_was_pushed(rt: HostRuntime) -> Result<(), Fail> {
+        let mut journal = Journal::empty(rt.alloc());
+        let entries = [
+            JournalEntry::Granted { time: 3 },
+            JournalEntry::Granted { time: 5 },
+        ];
+        journal.reserve(2)?;
+        journal.push(entries[0]);
+        journal.push(entries[1]);
+        assert_eq!(rt; journal.entries(), entries.as_slice());
+        Ok(())
+    }
+}
