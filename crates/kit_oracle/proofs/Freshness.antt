@@ -5,18 +5,18 @@ use Rattle.std.proofs.lemmas.Bool.{eq-eqb}
 use Rattle.std.proofs.lemmas.List.Elements.{filter-append}
 use Rattle.std.proofs.lemmas.List.FromFn.{length-map-range_with_len}
 use Rattle.kit_base.specs.declared.message.Message.{Message}
+use Rattle.kit_base.proofs.Lists.{all-append, all_front, all_filter, each_weaker}
 use Rattle.kit_rules.specs.Parts.{Parts}
 use Rattle.kit_rules.specs.Federation.{IsFederation}
 use Rattle.kit_rules.specs.Step.{is_event}
 use Rattle.kit_rules.specs.Delivery.{is_same, is_due, due_messages}
 use Rattle.kit_rules.specs.Simulation.{Seat, World, started, started_seat, seat_at, nobody_seated, granted_at, granted}
 use Rattle.kit_rules.proofs.Growth.{AreNumbered}
-use Rattle.kit_laws.proofs.Fitting.{all_in_order, all_filter}
-use Rattle.kit_laws.proofs.Pendings.{all-append, each_weaker}
+use Rattle.kit_laws.proofs.Fitting.{all_in_order}
 use Rattle.kit_laws.proofs.Numbers.{gained}
 use Rattle.kit_laws.proofs.Worlds.{grows_by_grant}
 use Rattle.kit_oracle.proofs.Numbering.{from, Below, OwnSends, granted_counted}
-use Rattle.kit_oracle.proofs.Starting.{Backward, LowerThan, Timed, Told, told, not_got, not_retracted, number_at, under_at, lower_of_below, of_own, all_left, own_numbered, each_timed, granted_backward}
+use Rattle.kit_oracle.proofs.Starting.{Backward, LowerThan, Timed, Told, told, not_got, not_retracted, number_at, under_at, lower_of_below, of_own, own_numbered, each_timed, granted_backward}
 use Rattle.kit_oracle.proofs.Showing.{AreFresh}
 
 -- what holds of all holds of one among them
@@ -46,7 +46,7 @@ timed_before v xs ys m o split e =
     let T : List Message → Type 0 = AllByRecursion (λ (x : Message). x.sender ≡ k → x.number ≡ m.value → x.time ≡ m.time) in
     let own : AllByRecursion Q (filter (from k) v.messages) = subst A (sym o.own) (each_timed v k o) in
     let here : Q m = all_at (λ (x : Message). x.sender ≡ k → Q x) xs ys m (subst S split (of_own Q k v.messages own)) refl in
-    all_left (Timed m) xs (m ∷ ys) (subst T split (here e))
+    all_front (Timed m) xs (m ∷ ys) (subst T split (here e))
 
 -- no seat has a message whose number is higher than those it had
 no_seat_has : (m : Message) (ss : List Seat) → AllByRecursion (λ (s : Seat). AllByRecursion (LowerThan m) s.got) ss → AllByRecursion (λ (s : Seat). list_any (is_same m) s.got ≡ false) ss
@@ -66,7 +66,7 @@ fresh_from v ss xs (m ∷ ms) t split lt h =
     let B : List Message → Type 0 = AllByRecursion Backward in (
       record {
         got = no_seat_has m ss h.0;
-        kept = not_retracted m xs (all_left Backward xs (m ∷ ms) (subst B split t.backward)) lower;
+        kept = not_retracted m xs (all_front Backward xs (m ∷ ms) (subst B split t.backward)) lower;
         new = not_got m xs lower;
         timed = timed_before v xs ms m o split;
       },

@@ -5,6 +5,7 @@ use Rattle.std.specs.Ordering.{is_lt}
 use Rattle.std.proofs.lemmas.Bool.{cases_Bool, cases_lt, and_from, lt-ltb, leb-true, ne_eqb}
 use Rattle.std.proofs.lemmas.Bool.Decides.{leb_tells}
 use Rattle.kit_base.specs.declared.message.Message.{Message}
+use Rattle.kit_base.proofs.Lists.{each_weaker}
 use Rattle.kit_rules.specs.declared.table.Request.TheVariants as request
 use Rattle.kit_rules.specs.Parts.{Parts}
 use Rattle.kit_rules.specs.Step.{is_event}
@@ -12,7 +13,7 @@ use Rattle.kit_base.specs.Order.{key_cmp, is_before, put, in_order}
 use Rattle.kit_rules.specs.Delivery.{is_same, retracts, is_transported, has_bit, receivers_of, is_pending, pending, is_due, due_messages, due_time}
 use Rattle.kit_oracle.specs.Queues.{first_time}
 use Rattle.kit_oracle.proofs.Ordered.{key_order, place, arranged, Up, up_arranged, filter_arranged}
-use Rattle.kit_laws.proofs.Pendings.{each_weaker, filter_each, any_filter_here, any_filter_more, same_self, pending_got, pending_front, pending_sent, not_false, any_left, any_right, any_in_order}
+use Rattle.kit_laws.proofs.Pendings.{filter_each, any_filter_here, any_filter_more, same_self, pending_got, pending_front, pending_sent, not_false, any_left, any_right, any_in_order}
 
 -- the order of messages, as a test
 abbrev pub before : Message → Message → Bool

@@ -1,3 +1,5 @@
+mod Observed
+mod Later
 mod Ordered
 mod Fronts
 mod Posts
@@ -11,3 +13,4 @@ mod Delivering
 mod Rounds
 mod Freshness
 mod Progress
+mod Outstanding

@@ -5,6 +5,7 @@ use Rattle.std.proofs.lemmas.Bool.{cases_eq, ne_eqb, eq-eqb}
 use Rattle.std.proofs.lemmas.List.{get_or-set_other, get_or-set_same, append-nil}
 use Rattle.std.proofs.lemmas.List.Elements.{filter-append}
 use Rattle.kit_base.specs.declared.message.Message.{Message}
+use Rattle.kit_base.proofs.Lists.{all-append, all_filter, each_weaker}
 use Rattle.kit_rules.specs.Parts.{Parts}
 use Rattle.kit_rules.specs.declared.table.Trigger.TheVariants.{Grant, Got}
 use Rattle.kit_rules.specs.declared.scene.State.{State}
@@ -13,8 +14,7 @@ use Rattle.kit_rules.proofs.Growth.{AreNumbered, AreNumbered-append}
 use Rattle.kit_rules.proofs.Backs.{Aimed, aimed_by_step}
 use Rattle.kit_rules.specs.Delivery.{is_due, due_messages}
 use Rattle.kit_rules.specs.Simulation.{Seat, World, seat_at, nobody_seated, granted_at, granted, after_deliveries}
-use Rattle.kit_laws.proofs.Fitting.{all_in_order, all_filter}
-use Rattle.kit_laws.proofs.Pendings.{all-append, each_weaker}
+use Rattle.kit_laws.proofs.Fitting.{all_in_order}
 use Rattle.kit_laws.proofs.Numbers.{gained}
 use Rattle.kit_laws.proofs.Worlds.{grows_by_grant}
 

@@ -1,11 +1,11 @@
 -- The desks from grant to grant, and at the start.
-use Rattle.std.proofs.Common.{◌≡◌, ℕ, zero, suc, ◌+◌, ◌-◌, ◌*◌, ◌<◌, ◌≤◌, List, [], ◌∷◌, ◌++◌, length, map, find, Option, Some, None, arith, refl, sym, subst, ap, ◌∙◌, add-one, Ok, Err}
+use Rattle.std.proofs.Common.{◌≡◌, ℕ, zero, suc, ◌+◌, ◌-◌, ◌*◌, ◌<◌, ◌≤◌, List, [], ◌∷◌, ◌++◌, length, map, find, Option, Some, None, arith, refl, sym, subst, ap, ◌∙◌, append_assoc, add-one, drop, Ok, Err}
 use Rattle.std.specs.List.{range_with_len}
 use Rattle.std.specs.Prelude.{Result}
 use Rattle.std.proofs.lemmas.List.{append-nil}
 use Rattle.std.proofs.lemmas.List.FromFn.{map-range_with_len_more, length-map-range_with_len}
 use Rattle.std.proofs.lemmas.Grind.{flat_map-append}
-use Rattle.kit_base.specs.declared.history.Line.{Line}
+use Rattle.kit_base.specs.declared.history.Line.TheVariants as line
 use Rattle.kit_base.specs.declared.message.Message.{Message}
 use Rattle.kit_rules.specs.Parts.{Parts}
 use Rattle.kit_rules.specs.Federation.{IsFederation}
@@ -22,6 +22,7 @@ use Rattle.kit_oracle.specs.declared.end.OracleEnd.{OracleEnd}
 use Rattle.kit_oracle.specs.declared.end.OracleEnd.TheVariants.{SendsSpent, NoMemory}
 use Rattle.kit_oracle.specs.Ends.{oracle_end, IfSpentAt, IfSpent}
 use Rattle.kit_oracle.specs.Queues.{front}
+use Rattle.kit_oracle.specs.Observing.{IsGrant}
 use Rattle.kit_oracle.specs.Desks.{waiting_at, turned_at, desk_at, all_posted, after_grant, shown, shown_from, desks_of}
 use Rattle.kit_oracle.proofs.Starting.{told}
 use Rattle.kit_oracle.proofs.Entering.{front_is_due}
@@ -56,28 +57,27 @@ start_shown p f = post_each p (started p).seats [] (started p).messages (start_f
 pub few_opened : (p : Parts) → IsFederation p → length (shown_from p [] 0 (started p).seats) ≤ 16
 few_opened p f = omega (arith, length_shown p [] 0 (started p).seats, length-map-range_with_len (started_seat p) 0 (length p.federates), f.federates.count.1)
 
--- what the desks and the lines of a run show after n grants
-pub record Shows (p : Parts) (n : ℕ) (ds : List Desk) (ls : List Line) : Type 0 where
+-- what the desks of a run show after n grants
+pub record Shows (p : Parts) (n : ℕ) (ds : List Desk) : Type 0 where
   pub desks : ds ≡ desks_of p (after_grants p n (started p))
-  pub lines : ls ≡ lines_of (after_grants p n (started p)).blocks
   pub none : find is_spent (after_grants p n (started p)).messages ≡ None
   pub sane : IsSane p (after_grants p n (started p)).seats
 
 -- there are as many desks as federates
-pub few_desks : (p : Parts) (n : ℕ) (ds : List Desk) (ls : List Line) → Shows p n ds ls → length ds ≡ length p.federates
-few_desks p n ds ls s =
+pub few_desks : (p : Parts) (n : ℕ) (ds : List Desk) → Shows p n ds → length ds ≡ length p.federates
+few_desks p n ds s =
     let w = after_grants p n (started p) in
     ap (λ (xs : List Desk). length xs) s.desks ∙ length_shown p w.messages 0 w.seats ∙ s.sane.count
 
 -- the next grant, as it is found among the desks
-pub next_found : (p : Parts) (n : ℕ) (ds : List Desk) (ls : List Line) (end : ℕ) (r : Option (ℕ × ℕ)) → Shows p n ds ls → end ≡ p.end → r ≡ least None (waiting_at end 0 ds) → next_grant p (after_grants p n (started p)) ≡ r
-next_found p n ds ls end r s e h =
+pub next_found : (p : Parts) (n : ℕ) (ds : List Desk) (end : ℕ) (r : Option (ℕ × ℕ)) → Shows p n ds → end ≡ p.end → r ≡ least None (waiting_at end 0 ds) → next_grant p (after_grants p n (started p)) ≡ r
+next_found p n ds end r s e h =
     let w = after_grants p n (started p) in
     ap (least None) (sym (waiting_shown p w.messages 0 w.seats)) ∙ ap (λ xs. least None (waiting_at p.end 0 xs)) (sym s.desks) ∙ ap (λ (t : ℕ). least None (waiting_at t 0 ds)) (sym e) ∙ sym h
 
 -- the next grant goes to a federate there is, by the end
-pub next_fits : (p : Parts) (n : ℕ) (ds : List Desk) (ls : List Line) (g : ℕ × ℕ) → Shows p n ds ls → next_grant p (after_grants p n (started p)) ≡ Some g → (g.1 < length p.federates) × (g.0 ≤ p.end)
-next_fits p n ds ls g s next =
+pub next_fits : (p : Parts) (n : ℕ) (ds : List Desk) (g : ℕ × ℕ) → Shows p n ds → next_grant p (after_grants p n (started p)) ≡ Some g → (g.1 < length p.federates) × (g.0 ≤ p.end)
+next_fits p n ds g s next =
     let w = after_grants p n (started p) in
     let fine = next_fine p w.messages w.seats g s.sane next in
     (omega (arith, fine.0, s.sane.count), fine.1)
@@ -108,33 +108,64 @@ one_more p n g next =
 lines_more : (bs : List Block) (b : Block) → lines_of (bs ++ b ∷ []) ≡ lines_of bs ++ block_lines b
 lines_more bs b = flat_map-append block_lines bs (b ∷ []) ∙ ap (λ ls. lines_of bs ++ ls) (append-nil (block_lines b))
 
+-- what is at the front of the queue of the federate that is granted
+front_of_next : (p : Parts) (n : ℕ) (ds : List Desk) (g : ℕ × ℕ) → Shows p n ds → next_grant p (after_grants p n (started p)) ≡ Some g
+    → front g.0 (desk_at ds g.1).queue ≡ due_messages p g.1 g.0 (seat_at (after_grants p n (started p)) g.1).got (after_grants p n (started p)).messages
+front_of_next p n ds g s next =
+    let w = after_grants p n (started p) in
+    let within = (next_fine p w.messages w.seats g s.sane next).0 in
+    ap (λ xs. front g.0 (desk_at xs g.1).queue) s.desks ∙ ap (λ (d : Desk). front g.0 d.queue) (desk_shown p w g.1 within) ∙ front_is_due p g.1 g.0 (seat_at w g.1).got w.messages
+
+-- the lines after one more grant
+pub lines_next : (p : Parts) (n : ℕ) (ds : List Desk) (g : ℕ × ℕ) → Shows p n ds → next_grant p (after_grants p n (started p)) ≡ Some g
+    → (lines_of (after_grants p n (started p)).blocks ++ map (line.Deliver g.0 g.1) (front g.0 (desk_at ds g.1).queue)) ++ line.Grant g.0 g.1 ∷ [] ≡ lines_of (after_grants p (n + 1) (started p)).blocks
+lines_next p n ds g s next =
+    let w = after_grants p n (started p) in
+    let due = due_messages p g.1 g.0 (seat_at w g.1).got w.messages in
+    append_assoc (lines_of w.blocks) (map (line.Deliver g.0 g.1) (front g.0 (desk_at ds g.1).queue)) (line.Grant g.0 g.1 ∷ [])
+    ∙ ap (λ ms. lines_of w.blocks ++ block_lines (block g.1 g.0 ms)) (front_of_next p n ds g s next)
+    ∙ sym (lines_more w.blocks (block g.1 g.0 due))
+    ∙ ap (λ (v : World). lines_of v.blocks) (sym (one_more p n g next))
+
+-- an observer is told of this grant
+pub told_of : (p : Parts) (n : ℕ) (ds : List Desk) (made : List Message) (g : ℕ × ℕ) → IsFederation p → Shows p n ds → next_grant p (after_grants p n (started p)) ≡ Some g
+    → made ≡ drop (length (desk_at ds g.1).state.sends) (turned_at p g ds).state.sends → (turned_at p g ds).state.next ≤ 16385 → IsGrant p n g made
+told_of p n ds made g f s next is room =
+    let w = after_grants p n (started p) in
+    let within = (next_fine p w.messages w.seats g s.sane next).0 in
+    let R : Desk → Type 0 = λ d. d.state.next ≤ 16385 in
+    let desk : desk_at ds g.1 ≡ shown p w.messages g.1 (seat_at w g.1) = ap (λ xs. desk_at xs g.1) s.desks ∙ desk_shown p w g.1 within in
+    let turn = ap (turned_at p g) s.desks ∙ turn_shown p w g within in
+    record {
+      federation = f;
+      next = next;
+      sent = is ∙ ap (λ (d : Desk). drop (length d.state.sends) (turned_at p g ds).state.sends) desk ∙ ap (λ (d : Desk). drop (length (seat_at w g.1).state.sends) d.state.sends) turn;
+      room = subst R turn room;
+    }
+
 -- one more grant shows one more grant
-pub granted_shows : (p : Parts) (n : ℕ) (ds es : List Desk) (ls ms : List Line) (g : ℕ × ℕ) → IsFederation p → Shows p n ds ls → next_grant p (after_grants p n (started p)) ≡ Some g
-    → es ≡ after_grant p g ds → ms ≡ ls ++ block_lines (block g.1 g.0 (front g.0 (desk_at ds g.1).queue)) → (turned_at p g ds).state.next ≤ 16385 → Shows p (n + 1) es ms
-granted_shows p n ds es ls ms g f s next de le room =
+pub granted_shows : (p : Parts) (n : ℕ) (ds es : List Desk) (g : ℕ × ℕ) → IsFederation p → Shows p n ds → next_grant p (after_grants p n (started p)) ≡ Some g
+    → es ≡ after_grant p g ds → (turned_at p g ds).state.next ≤ 16385 → Shows p (n + 1) es
+granted_shows p n ds es g f s next de room =
     let w = after_grants p n (started p) in
     let v = granted p w g in
     let within = (next_fine p w.messages w.seats g s.sane next).0 in
     let after : v ≡ after_grants p (n + 1) (started p) = sym (one_more p n g next) in
     let D : World → Type 0 = λ u. es ≡ desks_of p u in
-    let L : World → Type 0 = λ u. ms ≡ lines_of u.blocks in
     let N : World → Type 0 = λ u. find is_spent u.messages ≡ None in
     let S : World → Type 0 = λ u. IsSane p u.seats in
     let R : Desk → Type 0 = λ d. d.state.next ≤ 16385 in
-    let due = due_messages p g.1 g.0 (seat_at w g.1).got w.messages in
     let turn = ap (turned_at p g) s.desks ∙ turn_shown p w g within in
-    let queue : front g.0 (desk_at ds g.1).queue ≡ due = ap (λ xs. front g.0 (desk_at xs g.1).queue) s.desks ∙ ap (λ (d : Desk). front g.0 d.queue) (desk_shown p w g.1 within) ∙ front_is_due p g.1 g.0 (seat_at w g.1).got w.messages in
     record {
       desks = subst D after (de ∙ ap (after_grant p g) s.desks ∙ grant_shown p w g within (grant_fresh p w g within (told p n f)));
-      lines = subst L after (le ∙ ap (λ xs. xs ++ block_lines (block g.1 g.0 (front g.0 (desk_at ds g.1).queue))) s.lines ∙ ap (λ ms. lines_of w.blocks ++ block_lines (block g.1 g.0 ms)) queue ∙ sym (lines_more w.blocks (block g.1 g.0 due)));
       none = subst N after (granted_none p w g s.none (subst R turn room));
       sane = subst S after (granted_sane p w g within s.sane);
     }
 
 -- a grant that goes past number 16,384 is the first to do so
-pub spent_here : (p : Parts) (n : ℕ) (ds : List Desk) (ls : List Line) (g : ℕ × ℕ) → Shows p n ds ls → n < length p.federates * p.end → next_grant p (after_grants p n (started p)) ≡ Some g
+pub spent_here : (p : Parts) (n : ℕ) (ds : List Desk) (g : ℕ × ℕ) → Shows p n ds → n < length p.federates * p.end → next_grant p (after_grants p n (started p)) ≡ Some g
     → (desk_at ds g.1).state.next ≤ 16385 → 16385 < (turned_at p g ds).state.next → spender p ≡ Some g.1
-spent_here p n ds ls g s lt next room past =
+spent_here p n ds g s lt next room past =
     let w = after_grants p n (started p) in
     let most = length p.federates * p.end in
     let within = (next_fine p w.messages w.seats g s.sane next).0 in

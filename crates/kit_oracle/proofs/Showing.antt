@@ -4,6 +4,7 @@ use Rattle.std.specs.List.{AllByRecursion, list_any}
 use Rattle.std.proofs.lemmas.List.{append-nil}
 use Rattle.std.proofs.Math.Nat.{zero-div}
 use Rattle.kit_base.specs.declared.message.Message.{Message}
+use Rattle.kit_base.proofs.Lists.{all_filter}
 use Rattle.kit_base.specs.Order.{in_order}
 use Rattle.kit_rules.specs.declared.table.Request.{Request}
 use Rattle.kit_rules.specs.declared.table.Request.TheVariants as request
@@ -11,7 +12,7 @@ use Rattle.kit_rules.specs.Parts.{Parts}
 use Rattle.kit_rules.specs.Step.{is_event}
 use Rattle.kit_rules.specs.Delivery.{has_bit, receivers_of, is_transported, is_same, retracts, is_pending, pending, due_messages, due_time}
 use Rattle.kit_rules.specs.Simulation.{Seat, World, request_at, after_block, seat_due, waiting_from, granted_seat, granted_at, granted, seat_at, nobody_seated}
-use Rattle.kit_laws.proofs.Fitting.{all_in_order, all_filter}
+use Rattle.kit_laws.proofs.Fitting.{all_in_order}
 use Rattle.kit_oracle.specs.declared.desk.Desk.{Desk}
 use Rattle.kit_oracle.specs.Queues.{enter, behind, posted, taken_out}
 use Rattle.kit_oracle.specs.Desks.{due_in, waiting_at, turned, turned_at, desk_at, nobody_there, reached, posted_from, all_posted, after_grant, shown, shown_from, desks_of}

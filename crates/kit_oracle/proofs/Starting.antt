@@ -7,6 +7,7 @@ use Rattle.std.proofs.lemmas.List.{append-nil}
 use Rattle.std.proofs.lemmas.List.Elements.{filter-append}
 use Rattle.std.proofs.lemmas.List.FromFn.{get_or-map-range_with_len, length-map-range_with_len}
 use Rattle.kit_base.specs.declared.message.Message.{Message}
+use Rattle.kit_base.proofs.Lists.{all-append, all_drop, each_weaker}
 use Rattle.kit_rules.specs.Parts.{Parts, federate_at}
 use Rattle.kit_rules.specs.Federation.{IsFederation}
 use Rattle.kit_laws.proofs.Rising.{Reached, grants, reached_once, started_reached}
@@ -17,7 +18,6 @@ use Rattle.kit_rules.proofs.Backs.{Aimed, Aims, aimed_by_step, one_time}
 use Rattle.kit_rules.specs.Delivery.{is_same, retracts}
 use Rattle.kit_rules.specs.Simulation.{Seat, World, started, started_seat, seat_at, nobody_seated, granted_at, granted, granted_or_same, next_grant, advanced, after_grants}
 use Rattle.kit_oracle.specs.Queues.{has_key, taken_out}
-use Rattle.kit_laws.proofs.Pendings.{all-append, each_weaker}
 use Rattle.kit_laws.proofs.Worlds.{grows_by_start}
 use Rattle.kit_oracle.proofs.Fronts.{filter_same}
 use Rattle.kit_oracle.proofs.Numbering.{from, Below, OwnSends, Counted, filter_own, filter_other, below_numbered, aimed_by_grant, granted_counted}
@@ -97,17 +97,6 @@ started_counted p =
 -- Retractions name lower numbers than their own
 abbrev pub Backward : Message → Type 0
 Backward r = is_event r.kind ≡ false → r.value < r.number
-
--- what holds of each holds of the rest
-all_drop : (P : Message → Type 0) (n : ℕ) (xs : List Message) → AllByRecursion P xs → AllByRecursion P (drop n xs)
-all_drop P zero xs h = h
-all_drop P (suc n) [] h = tt
-all_drop P (suc n) (x ∷ xs) h = all_drop P n xs h.1
-
--- what holds of each holds of those before
-pub all_left : (P : Message → Type 0) (xs ys : List Message) → AllByRecursion P (xs ++ ys) → AllByRecursion P xs
-all_left P [] ys h = tt
-all_left P (x ∷ xs) ys h = (h.0, all_left P xs ys h.1)
 
 -- so do those that a grant makes
 pub made_backward : (p : Parts) (w : World) (g : ℕ × ℕ) → Aimed (seat_at w g.1).state → AllByRecursion Backward (drop (length (seat_at w g.1).state.sends) (granted_at p w g).state.sends)

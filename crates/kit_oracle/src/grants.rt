@@ -2,17 +2,19 @@
 
 ghost use Rattle.std.specs.Prelude.{◌≡◌, ◌<◌, ◌≤◌, ◌+◌, [], ◌∷◌, ◌++◌, length, map, take, drop, OnOk, Err};
 ghost use Rattle.kit_base.specs.declared.history.Line.TheVariants as line;
-ghost use Rattle.kit_rules.specs.Simulation.{request_at, after_deliveries, after_block, block, block_lines};
+ghost use Rattle.kit_rules.specs.Simulation.{request_at, after_deliveries, after_block};
 ghost use Rattle.kit_oracle.specs.Queues.{front, behind};
 ghost use Rattle.kit_oracle.specs.Desks.{turned, turned_at, desk_at, after_grant};
 ghost use Rattle.kit_oracle.specs.Ends.{IfSpent};
+ghost use Rattle.kit_oracle.specs.Observing.{Adds};
 
 use crate::OracleEnd;
 use crate::desk::Desk;
 use crate::end::end_of;
+use crate::observer::Observer;
 use crate::posting::post_all;
 use crate::queue::Queue;
-use kit_base::{Line, Message};
+use kit_base::Message;
 use kit_rules::{ApplyEnd, FedState, Federation, Request, Trigger, Wish, apply};
 
 /// The request that a wish makes at a time.
@@ -26,28 +28,24 @@ pub(crate) fn request_of(wish: Wish, now: u64, end: u64) -> Request
     }
 }
 
-fn deliver(
+fn deliver<O: Observer>(
     federation: &Federation,
     i: u8,
     d: u64,
     message: Message,
     state: &mut FedState,
     made: &mut Vec<Message>,
-    lines: &mut Vec<Line>,
+    observer: &mut O,
 ) -> Result<(), ApplyEnd>
     requires federate { i < length federation.now.federates }
     requires time { d ≤ federation.now.end }
     ensures state { OnOk result (state.new ≡ after_deliveries federation.now i d state.old (message ∷ [])) }
     ensures made { OnOk result (made.new.items ≡ made.old.items ++ drop (length state.old.sends) state.new.sends) }
-    ensures lines { OnOk result (lines.new.items ≡ lines.old.items ++ line.Deliver d i message ∷ []) }
+    ensures lines { OnOk result (Adds O.shows observer.old observer.new (line.Deliver d i message ∷ [])) }
     ensures kept { take (length state.old.sends) state.new.sends ≡ state.old.sends }
     ensures spent { result ≡ Err ApplyEnd.SendsSpent → 16385 < (after_deliveries federation.now i d state.old (message ∷ [])).next }
 {
-    lines.push(Line::Deliver {
-        granted: d,
-        federate: i,
-        message,
-    })?;
+    observer.deliver(d, i, message)?;
     let group = message.group;
     apply(
         federation,
@@ -61,72 +59,68 @@ fn deliver(
 }
 
 /// Delivers what is due, in order.
-fn deliver_all(
+fn deliver_all<O: Observer>(
     federation: &Federation,
     i: u8,
     d: u64,
     state: &mut FedState,
     queue: &mut Queue,
     made: &mut Vec<Message>,
-    lines: &mut Vec<Line>,
+    observer: &mut O,
 ) -> Result<(), ApplyEnd>
     requires federate { i < length federation.now.federates }
     requires time { d ≤ federation.now.end }
     ensures state { OnOk result (state.new ≡ after_deliveries federation.now i d state.old (front d queue.old)) }
     ensures queue { OnOk result (queue.new ≡ behind d queue.old) }
     ensures made { OnOk result (made.new.items ≡ made.old.items ++ drop (length state.old.sends) state.new.sends) }
-    ensures lines { OnOk result (lines.new.items ≡ lines.old.items ++ map (line.Deliver d i) (front d queue.old)) }
+    ensures lines { OnOk result (Adds O.shows observer.old observer.new (map (line.Deliver d i) (front d queue.old))) }
     ensures spent { result ≡ Err ApplyEnd.SendsSpent → 16385 < (after_deliveries federation.now i d state.old (front d queue.old)).next }
 {
     while let Some(message) = queue.pop_due(d) {
-        deliver(federation, i, d, message, state, made, lines)?;
+        deliver(federation, i, d, message, state, made, observer)?;
     }
     Ok(())
 }
 
 /// The rules of the deliveries, and then those of the grant.
-fn run_block(
+fn run_block<O: Observer>(
     federation: &Federation,
     i: u8,
     d: u64,
     state: &mut FedState,
     queue: &mut Queue,
     made: &mut Vec<Message>,
-    lines: &mut Vec<Line>,
+    observer: &mut O,
 ) -> Result<(), ApplyEnd>
     requires federate { i < length federation.now.federates }
     requires time { d ≤ federation.now.end }
     ensures state { OnOk result (state.new ≡ after_block federation.now i d state.old (front d queue.old)) }
     ensures queue { OnOk result (queue.new ≡ behind d queue.old) }
     ensures made { OnOk result (made.new.items ≡ made.old.items ++ drop (length state.old.sends) state.new.sends) }
-    ensures lines { OnOk result (lines.new.items ≡ lines.old.items ++ block_lines (block i d (front d queue.old))) }
+    ensures lines { OnOk result (Adds O.shows observer.old observer.new (map (line.Deliver d i) (front d queue.old))) }
     ensures spent { result ≡ Err ApplyEnd.SendsSpent → 16385 < (after_block federation.now i d state.old (front d queue.old)).next }
     ensures room { OnOk result (state.new.next ≤ 16385) }
     ensures was_room { state.old.next ≤ 16385 }
 {
     let _ = state.next();
-    deliver_all(federation, i, d, state, queue, made, lines)?;
-    lines.push(Line::Grant {
-        time: d,
-        federate: i,
-    })?;
+    deliver_all(federation, i, d, state, queue, made, observer)?;
     apply(federation, i, state, Trigger::Grant, d, 0, made)
 }
 
 /// A grant on the federate's own desk; what it sends is added to `made`.
-fn turn(
+fn turn<O: Observer>(
     federation: &Federation,
     i: u8,
     d: u64,
     desk: &mut Desk,
     made: &mut Vec<Message>,
-    lines: &mut Vec<Line>,
+    observer: &mut O,
 ) -> Result<(), ApplyEnd>
     requires federate { i < length federation.now.federates }
     requires time { d ≤ federation.now.end }
     ensures desk { OnOk result (desk.new ≡ turned federation.now i d desk.old) }
     ensures made { OnOk result (made.new.items ≡ made.old.items ++ drop (length desk.old.state.sends) desk.new.state.sends) }
-    ensures lines { OnOk result (lines.new.items ≡ lines.old.items ++ block_lines (block i d (front d desk.old.queue))) }
+    ensures lines { OnOk result (Adds O.shows observer.old observer.new (map (line.Deliver d i) (front d desk.old.queue))) }
     ensures spent { result ≡ Err ApplyEnd.SendsSpent → 16385 < (turned federation.now i d desk.old).state.next }
     ensures room { OnOk result ((turned federation.now i d desk.old).state.next ≤ 16385) }
     ensures was_room { desk.old.state.next ≤ 16385 }
@@ -140,7 +134,7 @@ fn turn(
         &mut desk.state,
         &mut desk.queue,
         made,
-        lines,
+        observer,
     )?;
     desk.now = d;
     if d < end {
@@ -149,13 +143,13 @@ fn turn(
     Ok(())
 }
 
-/// A grant with its messages posted; `made` is a place for them, empty before and after.
-pub(crate) fn grant(
+/// A grant with its messages posted, which are added to `made`.
+pub(crate) fn grant<O: Observer>(
     federation: &Federation,
     pair: (u64, u8),
     desks: &mut Vec<Desk>,
     made: &mut Vec<Message>,
-    lines: &mut Vec<Line>,
+    observer: &mut O,
 ) -> Result<(), OracleEnd>
     requires federate { pair.1 < length federation.now.federates }
     requires desk { pair.1 < length desks.old.items }
@@ -163,8 +157,8 @@ pub(crate) fn grant(
     requires time { pair.0 ≤ federation.now.end }
     requires made { made.old.items ≡ [] }
     ensures desks { OnOk result (desks.new.items ≡ after_grant federation.now pair desks.old.items) }
-    ensures made { OnOk result (made.new.items ≡ []) }
-    ensures lines { OnOk result (lines.new.items ≡ lines.old.items ++ block_lines (block pair.1 pair.0 (front pair.0 (desk_at desks.old.items pair.1).queue))) }
+    ensures made { OnOk result (made.new.items ≡ drop (length (desk_at desks.old.items pair.1).state.sends) (turned_at federation.now pair desks.old.items).state.sends) }
+    ensures lines { OnOk result (Adds O.shows observer.old observer.new (map (line.Deliver pair.0 pair.1) (front pair.0 (desk_at desks.old.items pair.1).queue))) }
     ensures spent { IfSpent result (λ i. i ≡ pair.1) }
     ensures past { IfSpent result (λ _. 16385 < (turned_at federation.now pair desks.old.items).state.next) }
     ensures room { OnOk result ((turned_at federation.now pair desks.old.items).state.next ≤ 16385) }
@@ -172,11 +166,10 @@ pub(crate) fn grant(
 {
     let (d, i) = pair;
     let desk = &mut desks[i as usize];
-    match turn(federation, i, d, desk, made, lines) {
+    match turn(federation, i, d, desk, made, observer) {
         Ok(()) => {}
         Err(end) => return Err(end_of(end, i)),
     }
     post_all(federation, made, desks)?;
-    made.clear();
     Ok(())
 }

@@ -4,13 +4,16 @@
 mod desk;
 mod end;
 mod grants;
+mod needs;
+mod observer;
 mod opening;
 mod posting;
 mod queue;
 mod simulation;
+mod times;
 
 pub use end::OracleEnd;
-pub use simulation::simulate;
+pub use simulation::{need, simulate};
 
 #[cfg(test)]
 mod tests;

@@ -1,5 +1,6 @@
-ghost use Rattle.std.specs.Prelude.{◌≡◌, ◌≤◌, [], length, map, find, Some, None, OnOk, IfOk, All};
+ghost use Rattle.std.specs.Prelude.{◌≡◌, ◌*◌, ◌≤◌, [], length, map, find, Some, None, OnOk, IfOk, All};
 ghost use Rattle.kit_rules.specs.Fits.{LineFits};
+ghost use Rattle.kit_rules.specs.Need.{needs_of};
 ghost use Rattle.kit_rules.specs.Simulation.{started, simulated, spender, is_spent, lines_of, closing_vars};
 ghost use Rattle.kit_oracle.specs.Desks.{desks_of};
 ghost use Rattle.kit_oracle.specs.Ends.{IfSpent};
@@ -7,24 +8,27 @@ ghost use Rattle.kit_oracle.specs.Ends.{IfSpent};
 use crate::OracleEnd;
 use crate::desk::{Desk, next_of};
 use crate::grants::grant;
+use crate::needs::Needs;
+use crate::observer::Observer;
 use crate::opening::open_all;
-use kit_base::{History, Items, Line, Message};
+use kit_base::{History, Items, Message};
 use kit_rules::Federation;
 use std::alloc::{AllocError, Global};
 
-/// Grants the least pair again and again, until no federate stands below the end.
-fn run_all(
+/// Grants the least pair again and again, until no federate stands below the end; `made` is a
+/// place for messages, empty before and after.
+fn run_all<O: Observer>(
     federation: &Federation,
     desks: &mut Vec<Desk>,
     made: &mut Vec<Message>,
-    lines: &mut Vec<Line>,
+    observer: &mut O,
 ) -> Result<(), OracleEnd>
     requires desks { desks.old.items ≡ desks_of federation.now (started federation.now) }
     requires made { made.old.items ≡ [] }
-    requires lines { lines.old.items ≡ [] }
+    requires shows { O.shows federation.now 0 [] observer.old }
     requires none { find is_spent (started federation.now).messages ≡ None }
     ensures desks { OnOk result (desks.new.items ≡ desks_of federation.now (simulated federation.now)) }
-    ensures lines { OnOk result (lines.new.items ≡ lines_of (simulated federation.now).blocks) }
+    ensures shows { OnOk result (O.shows federation.now (length federation.now.federates * federation.now.end) (lines_of (simulated federation.now).blocks) observer.new) }
     ensures none { OnOk result (find is_spent (simulated federation.now).messages ≡ None) }
     ensures spent { IfSpent result (λ i. spender federation.now ≡ Some i) }
 {
@@ -33,7 +37,11 @@ fn run_all(
     for _turn in 0..most {
         match next_of(end, desks) {
             None => return Ok(()),
-            Some(pair) => grant(federation, pair, desks, made, lines)?,
+            Some(pair) => {
+                grant(federation, pair, desks, made, observer)?;
+                observer.grant(federation, pair, made)?;
+                made.clear();
+            }
         }
     }
     Ok(())
@@ -54,6 +62,8 @@ fn vars_of(alloc: Global, desks: &[Desk]) -> Result<Items<[u32; 8]>, AllocError>
 /// As long as a federate stands below the end, the one whose next grant is due first is granted
 /// it, with the messages that are due then; of several the first in the order of the federates.
 /// It ends with `SendsSpent` where a federate takes number 16,385, and names the first to do so.
+// Compiled alone, the loop is as fast whatever else its caller does; so is that of `need`.
+#[inline(never)]
 pub fn simulate(alloc: Global, federation: &Federation) -> Result<History, OracleEnd>
     ensures lines { IfOk result (λ h. h.lines ≡ lines_of (simulated federation.now).blocks) }
     ensures vars { IfOk result (λ h. h.vars ≡ closing_vars (simulated federation.now)) }
@@ -74,4 +84,24 @@ pub fn simulate(alloc: Global, federation: &Federation) -> Result<History, Oracl
         lines: Items::from_vec(lines),
         vars,
     })
+}
+
+/// How many buffers each federate needs: the most of its transported messages, Retractions among
+/// them, that are later than its time, at the start and after its grants.
+///
+/// It ends as [`simulate`] does, and makes no lines.
+#[inline(never)]
+pub fn need(alloc: Global, federation: &Federation) -> Result<Items<u16>, OracleEnd>
+    ensures needs { IfOk result (λ needs. needs ≡ needs_of federation.now) }
+    ensures none { OnOk result (spender federation.now ≡ None) }
+    ensures spent { IfSpent result (λ i. spender federation.now ≡ Some i) }
+
+    // What the text of the needs asks.
+    ensures each { IfOk result (λ needs. length needs ≡ length federation.now.federates) }
+{
+    let mut made = Vec::new(alloc);
+    let mut desks = open_all(alloc, federation, &mut made)?;
+    let mut needs = Needs::of(alloc, federation, &desks)?;
+    run_all(federation, &mut desks, &mut made, &mut needs)?;
+    Ok(needs.most())
 }

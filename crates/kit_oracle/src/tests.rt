@@ -1,7 +1,8 @@
-use crate::{OracleEnd, simulate};
+use crate::{OracleEnd, need, simulate};
 use kit_base::{Items, Kind, Line, Message};
 use kit_rules::{
-    Action, Federate, Federation, Group, Name, Operand, Rule, Trigger, Var, Wish, obeys,
+    Action, Compare, Cond, Federate, Federation, Group, Name, Operand, Rule, Trigger, Var, Wish,
+    obeys,
 };
 use std::alloc::{AllocError, Global};
 use std::process::Abort;
@@ -161,8 +162,67 @@ fn numbers_are_spent(rt: HostRuntime) -> Result<(), Fail> {
         let actions = [send(1, 0, None); 16];
         let wish = Wish::Tar(1);
         federates.push(federate(alloc, b"a", wish, Trigger::Grant, &actions, 64)?)?;
-        let got = simulate(alloc, &federation(&rt, alloc, end, 1, federates)?).err();
-        assert_eq!(rt; got, want);
+        let federation = federation(&rt, alloc, end, 1, federates)?;
+        assert_eq!(rt; simulate(alloc, &federation).err(), want);
+        assert_eq!(rt; need(alloc, &federation).err(), want);
+    }
+    Ok(())
+}
+
+/// A rule that sends at one grant alone, so much later.
+fn send_at(alloc: Global, time: u32, delay: u32) -> Result<Rule, AllocError> {
+    let mut rule = rule(alloc, Trigger::Grant, &[send(delay, 0, None)])?;
+    rule.conds.push(Cond {
+        left: Operand::Now,
+        test: Compare::Eq,
+        right: Operand::Num(time),
+    })?;
+    Ok(rule)
+}
+
+/// Federate a, with these actions at the start and with sends at these grants, and federate b; the
+/// group has these members.
+fn sender(
+    rt: &impl Abort,
+    alloc: Global,
+    end: u64,
+    members: u16,
+    step: u32,
+    actions: &[Action],
+    sends: &[(u32, u32)],
+) -> Result<Federation, AllocError> {
+    let mut first = federate(alloc, b"a", Wish::Tar(step), Trigger::Start, actions, 1)?;
+    for (time, delay) in sends {
+        first.rules.push(send_at(alloc, *time, *delay)?)?;
+    }
+    let mut federates = Items::new(alloc);
+    federates.push(first)?;
+    federates.push(federate(alloc, b"b", Wish::Ner(5), Trigger::Start, &[], 0)?)?;
+    federation(rt, alloc, end, members, federates)
+}
+
+#[test]
+fn needs_are_the_most_that_is_outstanding(rt: HostRuntime) -> Result<(), Fail> {
+    let alloc = rt.alloc();
+    let past_the_end = [send(5, 1, None), send(6, 2, None)];
+    let taken_back = [send(4, 9, Some(0)), Action::Retract { var: 0 }];
+    let to_itself = [send(1, 0, None)];
+    let at_once = [(1, 1)];
+    let one_after_another = [(1, 5), (2, 5)];
+    let rows = [
+        (5, 2, 1, past_the_end.as_slice(), at_once.as_slice(), [2, 0]),
+        (4, 2, 4, taken_back.as_slice(), [].as_slice(), [2, 0]),
+        (1, 1, 1, to_itself.as_slice(), [].as_slice(), [0, 0]),
+        (8, 2, 1, [].as_slice(), one_after_another.as_slice(), [2, 0]),
+        // The one that is timed now is there no more.
+        (8, 2, 1, [].as_slice(), [(1, 1), (2, 1)].as_slice(), [1, 0]),
+    ];
+    for (end, members, step, actions, sends, wants) in rows {
+        let needs = need(
+            alloc,
+            &sender(&rt, alloc, end, members, step, actions, sends)?,
+        )?;
+        assert_eq!(rt; needs.as_slice(), wants.as_slice());
     }
     Ok(())
 }

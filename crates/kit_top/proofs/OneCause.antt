@@ -1,17 +1,18 @@
 -- The words and the input cause one status and one text.
-use Rattle.std.proofs.Common.{◌≡◌, ◌≢◌, ◌⊎◌, inl, inr, ◌≤◌, ◌+◌, ℕ, List, length, Option, Some, None, IfSome, Result, Ok, Err, codes, refl, sym, subst, ap, ◌∙◌, arith}
+use Rattle.std.proofs.Common.{◌≡◌, ◌≢◌, ◌⊎◌, inl, inr, ◌≤◌, ◌+◌, ℕ, List, [], ◌∷◌, length, Option, Some, None, IfSome, Result, Ok, Err, codes, refl, sym, subst, ap, ◌∙◌, arith}
 use Rattle.serde_json.specs.Data.{Data}
 use Rattle.kit_io.specs.Causes.{Took}
 use Rattle.kit_rules.specs.Parts.{Parts}
 use Rattle.kit_rules.specs.Simulation.{spender}
-use Rattle.kit_rules.specs.Text.{simulation_text}
 use Rattle.kit_file.specs.declared.fault.FileFault.{FileFault}
 use Rattle.kit_file.specs.declared.fault.FileFault.TheVariants as file
 use Rattle.kit_file.specs.Answers.{Says, IsAccepted, IsFirstFault, IsNoJson, file_fault, rooted}
 use Rattle.kit_file.specs.Walk.{walk}
+use Rattle.kit_top.specs.declared.command.Command.{Command}
+use Rattle.kit_top.specs.declared.command.Command.TheVariants.{Oracle, Check}
 use Rattle.kit_top.specs.declared.status.Status.{Status}
 use Rattle.kit_top.specs.declared.status.Status.TheVariants.{Done, Usage, ReadFault, TooLong, BadFile, SendsSpent, WriteFault, NoMemory}
-use Rattle.kit_top.specs.Causes.{Causes, FileCauses, FederationCauses, Reading, IsOracle, IsWhole, IsBadFile, bad_file_text, spent_text, OneCause, most_bytes}
+use Rattle.kit_top.specs.Causes.{Causes, FileCauses, FederationCauses, Reading, IsCommand, IsWhole, IsBadFile, bad_file_text, spent_text, text_of, OneCause, most_bytes}
 
 some_same : {X : Type 0} (x y : X) → Some x ≡ Some y → x ≡ y
 some_same x y e = cc
@@ -76,25 +77,25 @@ accepted_not_bad bytes p f a b =
     elim (bad_cases bytes f b) [ inl y ↦ json_is bytes a.0 a.1 y.1 | inr y ↦ accepted_no_fault bytes p f a y ]
 
 -- what a federation causes: its text, or that a federate takes number 16,385
-federation_cases : (p : Parts) (s : Status) (a : List ℕ) → FederationCauses p s a
-    → ((s ≡ Done) × (spender p ≡ None) × (a ≡ simulation_text p)) ⊎ ((i : ℕ) × (s ≡ SendsSpent i) × (spender p ≡ Some i) × (a ≡ spent_text p i))
-federation_cases p Done a h = inl (refl, h.0, h.1)
-federation_cases p (SendsSpent i) a h = inr (i, refl, h.0, h.1)
-federation_cases p Usage a h = absurd h
-federation_cases p ReadFault a h = absurd h
-federation_cases p TooLong a h = absurd h
-federation_cases p (BadFile f) a h = absurd h
-federation_cases p WriteFault a h = absurd h
-federation_cases p NoMemory a h = absurd h
+federation_cases : (command : Command) (p : Parts) (s : Status) (a : List ℕ) → FederationCauses command p s a
+    → ((s ≡ Done) × (spender p ≡ None) × (a ≡ text_of command p)) ⊎ ((i : ℕ) × (s ≡ SendsSpent i) × (spender p ≡ Some i) × (a ≡ spent_text p i))
+federation_cases command p Done a h = inl (refl, h.0, h.1)
+federation_cases command p (SendsSpent i) a h = inr (i, refl, h.0, h.1)
+federation_cases command p Usage a h = absurd h
+federation_cases command p ReadFault a h = absurd h
+federation_cases command p TooLong a h = absurd h
+federation_cases command p (BadFile f) a h = absurd h
+federation_cases command p WriteFault a h = absurd h
+federation_cases command p NoMemory a h = absurd h
 
-federation_same : (p : Parts) (s t : Status) (a b : List ℕ) → FederationCauses p s a → FederationCauses p t b → (s ≡ t) × (a ≡ b)
-federation_same p s t a b h k =
-    elim (federation_cases p s a h) [
-      | inl x ↦ elim (federation_cases p t b k) [
+federation_same : (command : Command) (p : Parts) (s t : Status) (a b : List ℕ) → FederationCauses command p s a → FederationCauses command p t b → (s ≡ t) × (a ≡ b)
+federation_same command p s t a b h k =
+    elim (federation_cases command p s a h) [
+      | inl x ↦ elim (federation_cases command p t b k) [
         | inl y ↦ (x.0 ∙ sym y.0, x.2 ∙ sym y.2)
         | inr y ↦ absurd (none_some y.0 (sym x.1 ∙ y.2))
       ]
-      | inr x ↦ elim (federation_cases p t b k) [
+      | inr x ↦ elim (federation_cases command p t b k) [
         | inl y ↦ absurd (none_some x.0 (sym y.1 ∙ x.2))
         | inr y ↦ (let same : x.0 ≡ y.0 = some_same x.0 y.0 (sym x.2 ∙ y.2) in (x.1 ∙ ap SendsSpent same ∙ sym y.1, x.3 ∙ ap (spent_text p) same ∙ sym y.3))
       ]
@@ -104,58 +105,67 @@ federation_same p s t a b h k =
     none_some i e = absurd (cc)
 
 -- what a file causes: its fault, or what its federation causes
-file_cases : (bytes : List ℕ) (s : Status) (a : List ℕ) → FileCauses bytes s a
-    → ((f : FileFault) × (s ≡ BadFile f) × IsBadFile bytes f × (a ≡ bad_file_text f)) ⊎ ((p : Parts) × IsAccepted bytes p × FederationCauses p s a)
-file_cases bytes (BadFile f) a h = inl (f, refl, h.0, h.1)
-file_cases bytes Done a h = inr h
-file_cases bytes Usage a h = inr h
-file_cases bytes ReadFault a h = inr h
-file_cases bytes TooLong a h = inr h
-file_cases bytes (SendsSpent i) a h = inr h
-file_cases bytes WriteFault a h = inr h
-file_cases bytes NoMemory a h = inr h
+file_cases : (command : Command) (bytes : List ℕ) (s : Status) (a : List ℕ) → FileCauses command bytes s a
+    → ((f : FileFault) × (s ≡ BadFile f) × IsBadFile bytes f × (a ≡ bad_file_text f)) ⊎ ((p : Parts) × IsAccepted bytes p × FederationCauses command p s a)
+file_cases command bytes (BadFile f) a h = inl (f, refl, h.0, h.1)
+file_cases command bytes Done a h = inr h
+file_cases command bytes Usage a h = inr h
+file_cases command bytes ReadFault a h = inr h
+file_cases command bytes TooLong a h = inr h
+file_cases command bytes (SendsSpent i) a h = inr h
+file_cases command bytes WriteFault a h = inr h
+file_cases command bytes NoMemory a h = inr h
 
-file_same : (bytes : List ℕ) (s t : Status) (a b : List ℕ) → FileCauses bytes s a → FileCauses bytes t b → (s ≡ t) × (a ≡ b)
-file_same bytes s t a b h k =
-    elim (file_cases bytes s a h) [
-      | inl x ↦ elim (file_cases bytes t b k) [
+file_same : (command : Command) (bytes : List ℕ) (s t : Status) (a b : List ℕ) → FileCauses command bytes s a → FileCauses command bytes t b → (s ≡ t) × (a ≡ b)
+file_same command bytes s t a b h k =
+    elim (file_cases command bytes s a h) [
+      | inl x ↦ elim (file_cases command bytes t b k) [
         | inl y ↦ (let same : x.0 ≡ y.0 = bad_same bytes x.0 y.0 x.2 y.2 in (x.1 ∙ ap BadFile same ∙ sym y.1, x.3 ∙ ap bad_file_text same ∙ sym y.3))
         | inr y ↦ absurd (accepted_not_bad bytes y.0 x.0 y.1 x.2)
       ]
-      | inr x ↦ elim (file_cases bytes t b k) [
+      | inr x ↦ elim (file_cases command bytes t b k) [
         | inl y ↦ absurd (accepted_not_bad bytes x.0 y.0 x.1 y.2)
-        | inr y ↦ (let same : y.0 ≡ x.0 = accepted_same bytes y.0 x.0 y.1 x.1 in let P : Parts → Type 0 = λ p. FederationCauses p t b in federation_same x.0 s t a b x.2 (subst P same y.2))
+        | inr y ↦ (let same : y.0 ≡ x.0 = accepted_same bytes y.0 x.0 y.1 x.1 in let P : Parts → Type 0 = λ p. FederationCauses command p t b in federation_same command x.0 s t a b x.2 (subst P same y.2))
       ]
     ]
 
 -- what the words and the input cause, but for a read that failed: that the words are wrong, that the input is too
 -- long, or what the file causes
 record Whole (words : List (List ℕ)) (r : Reading) (s : Status) (a : List ℕ) : Type 0 where
-  word : IsOracle words
+  command : Command
+  word : IsCommand words command
   bytes : List ℕ
   whole : IsWhole r bytes
-  file : FileCauses bytes s a
+  file : FileCauses command bytes s a
 
 record Long (words : List (List ℕ)) (r : Reading) (s : Status) (a : List ℕ) : Type 0 where
   status : s ≡ TooLong
-  word : IsOracle words
+  command : Command
+  word : IsCommand words command
   took : Took r.before r.after (most_bytes + 1)
   text : a ≡ codes "fault TooLong\n"
 
 record Wrong (words : List (List ℕ)) (r : Reading) (s : Status) (a : List ℕ) : Type 0 where
   status : s ≡ Usage
-  word : IsOracle words → ⊥
+  word : (command : Command) → IsCommand words command → ⊥
   text : a ≡ codes "fault Usage\n"
 
 cases : (words : List (List ℕ)) (r : Reading) (s : Status) (a : List ℕ) → s ≢ ReadFault → Causes words r s a → Whole words r s a ⊎ (Long words r s a ⊎ Wrong words r s a)
 cases words r Usage a other h = inr (inr (record { status = refl; word = h.0; text = h.2 }))
 cases words r ReadFault a other h = absurd (other refl)
-cases words r TooLong a other h = inr (inl (record { status = refl; word = h.0; took = h.1; text = h.2 }))
-cases words r Done a other h = inl (record { word = h.0; bytes = h.1; whole = h.2; file = h.3 })
-cases words r (BadFile f) a other h = inl (record { word = h.0; bytes = h.1; whole = h.2; file = h.3 })
-cases words r (SendsSpent i) a other h = inl (record { word = h.0; bytes = h.1; whole = h.2; file = h.3 })
-cases words r WriteFault a other h = inl (record { word = h.0; bytes = h.1; whole = h.2; file = h.3 })
-cases words r NoMemory a other h = inl (record { word = h.0; bytes = h.1; whole = h.2; file = h.3 })
+cases words r TooLong a other h = inr (inl (record { status = refl; command = h.0; word = h.1; took = h.2; text = h.3 }))
+cases words r Done a other h = inl (record { command = h.0; word = h.1; bytes = h.2; whole = h.3; file = h.4 })
+cases words r (BadFile f) a other h = inl (record { command = h.0; word = h.1; bytes = h.2; whole = h.3; file = h.4 })
+cases words r (SendsSpent i) a other h = inl (record { command = h.0; word = h.1; bytes = h.2; whole = h.3; file = h.4 })
+cases words r WriteFault a other h = inl (record { command = h.0; word = h.1; bytes = h.2; whole = h.3; file = h.4 })
+cases words r NoMemory a other h = inl (record { command = h.0; word = h.1; bytes = h.2; whole = h.3; file = h.4 })
+
+-- words are those of one command
+command_same : (words : List (List ℕ)) (c d : Command) → IsCommand words c → IsCommand words d → c ≡ d
+command_same words Oracle Oracle a b = refl
+command_same words Check Check a b = refl
+command_same words Oracle Check a b = let e : codes "oracle" ∷ [] ≡ codes "check" ∷ [] = sym a ∙ b in absurd (cc)
+command_same words Check Oracle a b = let e : codes "check" ∷ [] ≡ codes "oracle" ∷ [] = sym a ∙ b in absurd (cc)
 
 -- bytes that were taken whole are those that were left
 all_left : (before : Option (List ℕ)) (xs bytes : List ℕ) → before ≡ Some xs → IfSome before (λ ys. bytes ≡ ys) → bytes ≡ xs
@@ -175,24 +185,25 @@ whole_not_long words r xs s t a b e x y = not_long r.before r.after xs x.bytes e
 whole_same : (words : List (List ℕ)) (r : Reading) (xs : List ℕ) (s t : Status) (a b : List ℕ) → r.before ≡ Some xs → Whole words r s a → Whole words r t b → (s ≡ t) × (a ≡ b)
 whole_same words r xs s t a b e x y =
     let same : y.bytes ≡ x.bytes = all_left r.before xs y.bytes e y.whole.all ∙ sym (all_left r.before xs x.bytes e x.whole.all) in
-    let P : List ℕ → Type 0 = λ bytes. FileCauses bytes t b in
-    file_same x.bytes s t a b x.file (subst P same y.file)
+    let P : List ℕ → Type 0 = λ bytes. FileCauses y.command bytes t b in
+    let Q : Command → Type 0 = λ command. FileCauses command x.bytes t b in
+    file_same x.command x.bytes s t a b x.file (subst Q (command_same words y.command x.command y.word x.word) (subst P same y.file))
 
 pub one_cause_law : OneCause
 one_cause_law words r xs s t a b e not_s not_t h k =
     elim (cases words r s a not_s h) [
       | inl x ↦ elim (cases words r t b not_t k) [
         | inl y ↦ whole_same words r xs s t a b e x y
-        | inr yy ↦ elim yy [ inl y ↦ absurd (whole_not_long words r xs s t a b e x y) | inr y ↦ absurd (y.word x.word) ]
+        | inr yy ↦ elim yy [ inl y ↦ absurd (whole_not_long words r xs s t a b e x y) | inr y ↦ absurd (y.word x.command x.word) ]
       ]
       | inr xx ↦ elim xx [
         | inl x ↦ elim (cases words r t b not_t k) [
           | inl y ↦ absurd (whole_not_long words r xs t s b a e y x)
-          | inr yy ↦ elim yy [ inl y ↦ (x.status ∙ sym y.status, x.text ∙ sym y.text) | inr y ↦ absurd (y.word x.word) ]
+          | inr yy ↦ elim yy [ inl y ↦ (x.status ∙ sym y.status, x.text ∙ sym y.text) | inr y ↦ absurd (y.word x.command x.word) ]
         ]
         | inr x ↦ elim (cases words r t b not_t k) [
-          | inl y ↦ absurd (x.word y.word)
-          | inr yy ↦ elim yy [ inl y ↦ absurd (x.word y.word) | inr y ↦ (x.status ∙ sym y.status, x.text ∙ sym y.text) ]
+          | inl y ↦ absurd (x.word y.command y.word)
+          | inr yy ↦ elim yy [ inl y ↦ absurd (x.word y.command y.word) | inr y ↦ (x.status ∙ sym y.status, x.text ∙ sym y.text) ]
         ]
       ]
     ]

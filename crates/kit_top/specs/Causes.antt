@@ -4,16 +4,28 @@ use Rattle.std.specs.Io.KnownBytes.{Appends}
 use Rattle.kit_io.specs.Causes.{Rose, Took, TookAtMost}
 use Rattle.kit_rules.specs.Parts.{Parts, federate_at}
 use Rattle.kit_rules.specs.Simulation.{spender}
-use Rattle.kit_rules.specs.Text.{simulation_text}
+use Rattle.kit_rules.specs.Text.{simulation_text, check_text}
 use Rattle.kit_file.specs.declared.fault.FileFault.{FileFault}
 use Rattle.kit_file.specs.declared.fault.FileFault.TheVariants as file
 use Rattle.kit_file.specs.Answers.{IsAccepted, IsFirstFault, IsNoJson}
+use Rattle.kit_top.specs.declared.command.Command.{Command}
+use Rattle.kit_top.specs.declared.command.Command.TheVariants.{Oracle, Check}
 use Rattle.kit_top.specs.declared.status.Status.{Status}
 use Rattle.kit_top.specs.declared.status.Status.TheVariants.{Done, Usage, ReadFault, TooLong, BadFile, SendsSpent, WriteFault, NoMemory}
 
--- the words are the one word `oracle`
-abbrev pub IsOracle : List (List ℕ) → Type 0
-IsOracle words = words ≡ codes "oracle" ∷ []
+-- the word of a command
+abbrev pub word_of : Command → List ℕ
+word_of Oracle = codes "oracle"
+word_of Check = codes "check"
+
+-- the words are the one word of a command
+abbrev pub IsCommand : List (List ℕ) → Command → Type 0
+IsCommand words command = words ≡ word_of command ∷ []
+
+-- what a command asks of a federation: the text of its sequential timestamp-ordered simulation, or that of its needs
+abbrev pub text_of : Command → Parts → List ℕ
+text_of Oracle p = simulation_text p
+text_of Check p = check_text p
 
 -- what a call did to its source: the bytes that were left before and after it, where the source tells them,
 -- whether its last read showed the end, and the count of faults before and after
@@ -48,11 +60,15 @@ pub record IsUntouched (r : Reading) : Type 0 where
 abbrev pub spent_text : Parts → ℕ → List ℕ
 spent_text p i = codes "fault SendsSpent " ++ (federate_at p i).name ++ codes "\n"
 
--- what `oracle` makes of a federation
-abbrev pub FederationCauses : Parts → Status → List ℕ → Type 0
-FederationCauses p Done text = (spender p ≡ None) × (text ≡ simulation_text p)
-FederationCauses p (SendsSpent i) text = (spender p ≡ Some i) × (text ≡ spent_text p i)
-FederationCauses p _ text = ⊥
+-- what a command makes of a federation
+abbrev pub FederationCauses : Command → Parts → Status → List ℕ → Type 0
+FederationCauses command p Done text = (spender p ≡ None) × (text ≡ text_of command p)
+FederationCauses command p (SendsSpent i) text = (spender p ≡ Some i) × (text ≡ spent_text p i)
+FederationCauses command p _ text = ⊥
+
+-- the federate that is to be told to take number 16,385, with its line
+abbrev pub IsTheSpender : Parts → ℕ → Status → List ℕ → Type 0
+IsTheSpender p i s text = (s ≡ SendsSpent i) × (text ≡ spent_text p i)
 
 -- the line of a fault with its path
 abbrev pub path_text : List ℕ → List ℕ → List ℕ
@@ -84,17 +100,17 @@ IsBadFile bytes file.NoMemory = ⊥
 abbrev pub IsTheFault : FileFault → Status → List ℕ → Type 0
 IsTheFault fault s text = (fault ≢ file.NoMemory) × (s ≡ BadFile fault) × (text ≡ bad_file_text fault)
 
--- what `oracle` makes of the bytes of a file
-abbrev pub FileCauses : List ℕ → Status → List ℕ → Type 0
-FileCauses bytes (BadFile fault) text = IsBadFile bytes fault × (text ≡ bad_file_text fault)
-FileCauses bytes s text = (p : Parts) × IsAccepted bytes p × FederationCauses p s text
+-- what a command makes of the bytes of a file
+abbrev pub FileCauses : Command → List ℕ → Status → List ℕ → Type 0
+FileCauses command bytes (BadFile fault) text = IsBadFile bytes fault × (text ≡ bad_file_text fault)
+FileCauses command bytes s text = (p : Parts) × IsAccepted bytes p × FederationCauses command p s text
 
 -- the status that the words and the input cause, and its text
 abbrev pub Causes : List (List ℕ) → Reading → Status → List ℕ → Type 0
-Causes words r Usage text = (IsOracle words → ⊥) × IsUntouched r × (text ≡ codes "fault Usage\n")
-Causes words r ReadFault text = IsOracle words × Rose r.faults_before r.faults_after × TookAtMost r.before r.after most_bytes × (text ≡ codes "fault ReadFault\n")
-Causes words r TooLong text = IsOracle words × Took r.before r.after (most_bytes + 1) × (text ≡ codes "fault TooLong\n")
-Causes words r s text = IsOracle words × (bytes : List ℕ) × IsWhole r bytes × FileCauses bytes s text
+Causes words r Usage text = ((command : Command) → IsCommand words command → ⊥) × IsUntouched r × (text ≡ codes "fault Usage\n")
+Causes words r ReadFault text = (command : Command) × IsCommand words command × Rose r.faults_before r.faults_after × TookAtMost r.before r.after most_bytes × (text ≡ codes "fault ReadFault\n")
+Causes words r TooLong text = (command : Command) × IsCommand words command × Took r.before r.after (most_bytes + 1) × (text ≡ codes "fault TooLong\n")
+Causes words r s text = (command : Command) × IsCommand words command × (bytes : List ℕ) × IsWhole r bytes × FileCauses command bytes s text
 
 -- a status with its text, of which these are the causes, was written: whole, or a front of it where the sink
 -- failed, or nothing where there was no memory
@@ -103,16 +119,16 @@ Told causes old new WriteFault = (s : Status) × (text : List ℕ) × causes s t
 Told causes old new NoMemory = new ≡ old
 Told causes old new s = (text : List ℕ) × causes s text × Appends old new text
 
--- the promise of `oracle`: the input is a federation file, and what was written is the text of its sequential
--- timestamp-ordered simulation
-pub record IsSimulated (words : List (List ℕ)) (r : Reading) (old new : Option (List ℕ)) : Type 0 where
-  pub word : IsOracle words
+-- the promise of each command: the input is a federation file, and what was written is what the command asks of it
+pub record IsAnswered (words : List (List ℕ)) (r : Reading) (old new : Option (List ℕ)) : Type 0 where
+  pub command : Command
+  pub word : IsCommand words command
   pub input : List ℕ
   pub whole : IsWhole r input
   pub federation : Parts
   pub accepted : IsAccepted input federation
   pub within : spender federation ≡ None
-  pub written : Appends old new (simulation_text federation)
+  pub written : Appends old new (text_of command federation)
 
 -- where the source tells its bytes, and no read failed, the words and the input cause one status and one text
 abbrev pub OneCause : Type 0

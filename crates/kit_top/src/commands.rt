@@ -1,25 +1,16 @@
 //! What each command does.
 
-ghost use Rattle.std.specs.Prelude.{◌≡◌, ◌↔◌, ◌≤◌, IsTrue, codes, [], ◌∷◌};
+ghost use Rattle.std.specs.Prelude.{◌≡◌};
 ghost use Rattle.kit_io.specs.Causes.{Rose};
-ghost use Rattle.kit_top.specs.Causes.{IsOracle, IsSimulated, Causes, OneCause, Told, reading};
+ghost use Rattle.kit_top.specs.Causes.{IsAnswered, Causes, OneCause, Told, reading};
 
-use crate::oracle::tell_oracle;
-use crate::{Status, Word};
+use crate::answers::tell_file;
+use crate::{Command, Status, Word};
 use kit_io::{ReadEnd, Sink, Source, read_all, write_text};
 use std::alloc::Global;
 
 /// The most bytes of an input.
 const MOST_BYTES: usize = 1_048_576;
-
-fn is_oracle(words: &[Word]) -> bool
-    ensures { IsTrue result ↔ IsOracle words.now }
-{
-    match words {
-        [word] => word.is("oracle"),
-        _ => false,
-    }
-}
 
 // Each status has its cause, and its text was written whole; a front of it for WriteFault, nothing
 // for NoMemory.
@@ -27,14 +18,14 @@ fn answer<S: Source, K: Sink>(alloc: Global, words: &[Word], source: &mut S, sin
     ensures told { Told (Causes words.now (reading (S.left source.old) (S.left source.new) (S.ended source.new) (S.faults source.old) (S.faults source.new))) (K.holds sink.old) (K.holds sink.new) result }
     ensures fault { result ≡ Status.WriteFault → Rose (K.faults sink.old) (K.faults sink.new) }
 {
-    if !is_oracle(words) {
+    let Some(command) = Command::of(words) else {
         return match write_text(sink, b"fault Usage\n") {
             Ok(()) => Status::Usage,
             Err(_) => Status::WriteFault,
         };
-    }
+    };
     match read_all(alloc, source, MOST_BYTES) {
-        Ok(bytes) => tell_oracle(alloc, &bytes, sink),
+        Ok(bytes) => tell_file(alloc, command, &bytes, sink),
         Err(ReadEnd::NoMemory) => Status::NoMemory,
         Err(ReadEnd::TooLong) => match write_text(sink, b"fault TooLong\n") {
             Ok(()) => Status::TooLong,
@@ -50,17 +41,19 @@ fn answer<S: Source, K: Sink>(alloc: Global, words: &[Word], source: &mut S, sin
 /// Reads a file from the source, does what the words say, and writes the text, or a line that
 /// names the fault, to the sink. It takes no threads and always returns.
 ///
-/// `oracle`, alone, writes the text of the file's sequential timestamp-ordered simulation.
-/// The words are looked at first; then comes the reading of the source to its end, then its form,
-/// then the simulation, and then the writing: a text is made whole before its first byte is written.
+/// `oracle`, alone, writes the text of the file's sequential timestamp-ordered simulation, and
+/// `check` how many buffers each of its federates needs and whether there are enough. The words are
+/// looked at first; then comes the reading of the source to its end, then its form, then the
+/// simulation, and then the writing: a text is made whole before its first byte is written.
 pub fn plain<S: Source, K: Sink>(
     alloc: Global,
     words: &[Word],
     source: &mut S,
     sink: &mut K,
 ) -> Status
-    // Done: what was written is the text of the file's sequential timestamp-ordered simulation.
-    ensures done { result ≡ Status.Done → IsSimulated words.now (reading (S.left source.old) (S.left source.new) (S.ended source.new) (S.faults source.old) (S.faults source.new)) (K.holds sink.old) (K.holds sink.new) }
+    // Done: what was written is what the command asks of the file: for `oracle` the text of its
+    // sequential timestamp-ordered simulation, for `check` that of its needs.
+    ensures done { result ≡ Status.Done → IsAnswered words.now (reading (S.left source.old) (S.left source.new) (S.ended source.new) (S.faults source.old) (S.faults source.new)) (K.holds sink.old) (K.holds sink.new) }
 
     // Each status has its cause, and its text was written whole; a front of it for WriteFault,
     // nothing for NoMemory.

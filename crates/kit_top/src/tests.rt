@@ -1,7 +1,7 @@
 mod files;
 
 use super::*;
-use files::{FAULTS, TEXTS};
+use files::{FAULTS, NEEDS, TEXTS};
 use kit_io::{MemorySink, MemorySource};
 use std::alloc::{AllocError, Global};
 use std::test::*;
@@ -51,16 +51,23 @@ fn files_give_their_texts(rt: HostRuntime) -> Result<(), AllocError> {
         assert_eq!(rt; code, 0, "{file}");
         assert_eq!(rt; held.as_slice(), text.as_bytes(), "{file}");
     }
+    for (file, text) in NEEDS {
+        let (code, held) = run(rt.alloc(), "check", file.as_bytes())?;
+        assert_eq!(rt; code, 0, "{file}");
+        assert_eq!(rt; held.as_slice(), text.as_bytes(), "{file}");
+    }
     Ok(())
 }
 
 #[test]
 fn faults_of_files_give_their_lines(rt: HostRuntime) -> Result<(), AllocError> {
     for (file, rest) in FAULTS {
-        let (code, held) = run(rt.alloc(), "oracle", file.as_bytes())?;
         let line = format!(in rt.alloc(); "fault BadFile {rest}\n")?;
-        assert_eq!(rt; code, 5, "{file}");
-        assert_eq!(rt; held.as_slice(), line.as_bytes(), "{file}");
+        for word in ["oracle", "check"] {
+            let (code, held) = run(rt.alloc(), word, file.as_bytes())?;
+            assert_eq!(rt; code, 5, "{word} {file}");
+            assert_eq!(rt; held.as_slice(), line.as_bytes(), "{word} {file}");
+        }
     }
     Ok(())
 }
@@ -75,6 +82,8 @@ fn other_words_are_a_usage_fault(rt: HostRuntime) -> Result<(), AllocError> {
         "replay q",
         "oracle oracle",
         "Oracle",
+        "check oracle",
+        "checks",
     ] {
         let (code, held) = run(rt.alloc(), line, b"")?;
         assert_eq!(rt; code, 2, "{line}");
@@ -91,9 +100,15 @@ fn numbers_end_at_16384(rt: HostRuntime) -> Result<(), AllocError> {
     assert_eq!(rt; held.iter().filter(|byte| **byte == b'\n').count(), 17);
 
     let file = many_sends(rt.alloc(), "17")?;
-    let (code, held) = run(rt.alloc(), "oracle", &file)?;
-    assert_eq!(rt; code, 8);
-    assert_eq!(rt; held.as_slice(), b"fault SendsSpent a\n".as_slice());
+    for word in ["oracle", "check"] {
+        let (code, held) = run(rt.alloc(), word, &file)?;
+        assert_eq!(rt; code, 8, "{word}");
+        assert_eq!(rt;
+            held.as_slice(),
+            b"fault SendsSpent a\n".as_slice(),
+            "{word}"
+        );
+    }
     Ok(())
 }
 

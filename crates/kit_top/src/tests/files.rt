@@ -26,7 +26,10 @@ const TAKEN_BACK_AT_ONCE: &str =
 const OWN_GROUP: &str =
     r#"{"version":1,"end":1,"buffers":1,"groups":[{"name":"self","members":["a"]}],"federates":[{"name":"a","lookahead":1,"advance":{"tar":1},"rules":[{"on":"start","do":[{"send":"self","delay":1,"value":0}]}]}]}"#;
 
-/// Files that are accepted, each with its text.
+const ONE_BUFFER: &str =
+    r#"{"version":1,"end":8,"buffers":1,"groups":[{"name":"g","members":["b"]}],"federates":[{"name":"a","lookahead":5,"advance":{"tar":1},"rules":[{"on":"grant","if":[{"left":"$now","is":"eq","right":1}],"do":[{"send":"g","delay":5,"value":1}]},{"on":"grant","if":[{"left":"$now","is":"eq","right":2}],"do":[{"send":"g","delay":5,"value":2}]}]},{"name":"b","lookahead":5,"advance":{"tar":5}}]}"#;
+
+/// Files that are accepted, each with the text of its simulation.
 pub(crate) const TEXTS: [(&str, &str); 9] = [
     (ONE_FEDERATE, "1 a grant\n2 a grant\n3 a grant\nend a\n"),
     (
@@ -58,6 +61,14 @@ pub(crate) const TEXTS: [(&str, &str); 9] = [
         "4 a grant\n4 b grant\nend a m=1\nend b\n",
     ),
     (OWN_GROUP, "1 a grant\nend a\n"),
+];
+
+/// Files that are accepted, each with the text of its needs.
+pub(crate) const NEEDS: [(&str, &str); 4] = [
+    (NEXT_EVENT, "need a 2\nneed b 0\nbuffers 2 enough\n"),
+    (TAKEN_BACK_AT_ONCE, "need a 2\nneed b 0\nbuffers 2 enough\n"),
+    (OWN_GROUP, "need a 0\nbuffers 1 enough\n"),
+    (ONE_BUFFER, "need a 2\nneed b 0\nbuffers 1 short\n"),
 ];
 
 /// Files with a fault, each with the rest of its line.

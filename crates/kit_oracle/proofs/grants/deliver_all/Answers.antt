@@ -1,34 +1,35 @@
-use Rattle.std.proofs.Common.{◌∙◌, ◌<◌, ◌∷◌, [], ◌++◌, length, map, drop, ap, sym, subst, arith, append_assoc}
+use Rattle.std.proofs.Common.{◌∙◌, ◌<◌, ◌++◌, List, length, map, drop, ap, sym, subst, arith}
 use Rattle.std.proofs.lemmas.Result.{err_from_is_err_and}
+use Rattle.kit_base.specs.declared.message.Message.{Message}
+use Rattle.kit_base.specs.declared.history.Line.{Line}
 use Rattle.kit_base.specs.declared.history.Line.TheVariants as line
 use Rattle.kit_rules.specs.declared.scene.State.{State}
 use Rattle.kit_oracle.specs.Queues.{front}
 use Rattle.kit_laws.proofs.Joins.{sent_in_a_row, kept_longer}
+use Rattle.kit_oracle.proofs.Observed.{Comes, comes_more, comes_last}
 use Rattle.kit_oracle.proofs.Delivering.{front_first, behind_first, behind_none, deliver_first, past_first}
 use Rattle.kit_oracle.proofs.grants.deliver_all.Goals as goal
 
 pub loop-message-preserved : goal.loop-message-preserved
-loop-message-preserved c =
+loop-message-preserved g c =
     let d = c.args.d in
     let m = c.in-Some.message in
     let q = c.loop-message.queue in
     let rest = c.pop_due.new.self in
     let old = c.loop-message.state in
     let new = c.deliver.new.state in
+    let lines : List Message → List Line = map (line.Deliver d c.args.i) in
     let inv = c.loop-message.invariant in record {
       state = deliver_first c.args.federation.now c.args.i d old new q m rest c.in-Some.ensures.some c.in-Some.ensures.due c.in_ok-deliver.ensures.state ∙ inv.state;
       queue = sym (behind_first d q m rest c.in-Some.ensures.some c.in-Some.ensures.due) ∙ inv.queue;
       more = omega (arith, inv.more, kept_longer old.sends new.sends c.deliver.ensures.kept);
       made = c.in_ok-deliver.ensures.made ∙ ap (λ xs. xs ++ drop (length old.sends) new.sends) inv.made
           ∙ sent_in_a_row c.args.made.now.items old.sends new.sends (length c.args.state.now.sends) inv.more c.deliver.ensures.kept;
-      lines = ap (λ xs. xs ++ map (line.Deliver d c.args.i) (front d rest)) c.in_ok-deliver.ensures.lines
-          ∙ append_assoc c.loop-message.lines.items (line.Deliver d c.args.i m ∷ []) (map (line.Deliver d c.args.i) (front d rest))
-          ∙ ap (λ ms. c.loop-message.lines.items ++ map (line.Deliver d c.args.i) ms) (sym (front_first d q m rest c.in-Some.ensures.some c.in-Some.ensures.due))
-          ∙ inv.lines;
+      lines = comes_more g.O.Observer.shows c.args.observer.now c.loop-message.observer c.deliver.new.observer (line.Deliver d c.args.i m) (lines (front d q)) (lines (front d c.args.queue.now)) (lines (front d rest)) inv.lines c.in_ok-deliver.ensures.lines (ap lines (front_first d q m rest c.in-Some.ensures.some c.in-Some.ensures.due));
     }
 
 pub returns-in_err-deliver-clause-spent : goal.returns-in_err-deliver-clause-spent
-returns-in_err-deliver-clause-spent c e =
+returns-in_err-deliver-clause-spent g c e =
     let p = err_from_is_err_and c.from_residual.result c.from_residual.ensures.1 in
     let P : State → Type 0 = λ s. 16385 < s.next in
     subst P c.loop-message.invariant.state
@@ -36,4 +37,9 @@ returns-in_err-deliver-clause-spent c e =
     (c.in_err-deliver.ensures.spent (cc (p.1, p.2))))
 
 pub returns-clause-queue : goal.returns-clause-queue
-returns-clause-queue c = c.in_default.ensures.unchanged ∙ sym (behind_none c.args.d c.loop-message.queue c.in_default.ensures.none) ∙ c.loop-message.invariant.queue
+returns-clause-queue g c = c.in_default.ensures.unchanged ∙ sym (behind_none c.args.d c.loop-message.queue c.in_default.ensures.none) ∙ c.loop-message.invariant.queue
+
+pub returns-clause-lines : goal.returns-clause-lines
+returns-clause-lines g c =
+    let lines : List Message → List Line = map (line.Deliver c.args.d c.args.i) in
+    comes_last g.O.Observer.shows c.args.observer.now c.loop-message.observer (lines (front c.args.d c.args.queue.now)) (let P : List Message → Type 0 = λ ms. Comes g.O.Observer.shows c.args.observer.now c.loop-message.observer (lines ms) (lines (front c.args.d c.args.queue.now)) in subst P c.in_default.ensures.none c.loop-message.invariant.lines)

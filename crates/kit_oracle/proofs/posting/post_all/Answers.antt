@@ -1,5 +1,5 @@
 use Rattle.std.proofs.Common.{◌≡◌, ◌+◌, ◌∙◌, ℕ, List, ap, arith, drop, get_or, length}
-use Rattle.kit_laws.proofs.Joins.{no_message}
+use Rattle.kit_rules.specs.Step.{no_message}
 use Rattle.kit_oracle.specs.declared.desk.Desk.{Desk}
 use Rattle.kit_oracle.specs.Desks.{all_posted, posted_from, reached}
 use Rattle.kit_oracle.proofs.Rounds.{post_next, length_posted}

@@ -17,7 +17,7 @@ pub returns-clause-fits : goal.returns-clause-fits
 returns-clause-fits c =
     let p = c.args.federation.now in
     let P : List Line → Type 0 = λ ls. All (LineFits p) ls in
-    let e : c.from_vec.result ≡ lines_of (simulated p).blocks = c.from_vec.ensures ∙ c.in_ok-run_all.ensures.lines in
+    let e : c.from_vec.result ≡ lines_of (simulated p).blocks = c.from_vec.ensures ∙ c.in_ok-run_all.ensures.shows in
     subst P (sym e) (simulated_fits p c.count.ensures.sound)
 
 pub returns-clause-each : goal.returns-clause-each

@@ -1,0 +1,9 @@
+use Rattle.std.proofs.Common.{◌∙◌, ap, length}
+use Rattle.kit_oracle.proofs.Outstanding.{needs_are}
+use Rattle.kit_oracle.proofs.simulation.need.Goals as goal
+
+pub returns-clause-needs : goal.returns-clause-needs
+returns-clause-needs c = c.most.ensures ∙ needs_are c.args.federation.now c.run_all.new.observer.times.items c.run_all.new.observer.most.items c.in_ok-run_all.ensures.shows
+
+pub returns-clause-each : goal.returns-clause-each
+returns-clause-each c = ap length c.most.ensures ∙ c.in_ok-run_all.ensures.shows.each_most
