@@ -1,0 +1,12 @@
+pub mod ClockSteps
+pub mod LetterSteps
+pub mod Keeping
+pub mod Asides
+pub mod Looking
+pub mod Sending
+pub mod Receiving
+pub mod Openings
+pub mod Sends
+pub mod Receives
+pub mod Looks
+pub mod Pairs

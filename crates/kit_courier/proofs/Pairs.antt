@@ -1,0 +1,80 @@
+-- Two federates on a plain floor, of whom the first sends and then the second receives.
+use Rattle.std.proofs.Common.{Bool, true, false, ◌≡◌, if◌then◌else◌, List, [], ◌∷◌, ◌++◌, length, sym, ap, ◌∙◌, subst, ⊎_elim, arith}
+use Rattle.std.proofs.lemmas.List.Elements.{Contains-push, Contains-push_cases}
+use Rattle.std.specs.Prelude.{Contains, IfSome, map, option_to_list, MatchOption, Option, None, Some}
+use mathlib.Core.Option.{some}
+use lib.ListN.{get_elem?}
+use Rattle.kit_ground.specs.declared.place.Place.{Place}
+use Rattle.kit_ground.specs.Coming.{Came}
+use Rattle.kit_ground.specs.Floors.{Floor, Ruled, opened, place_of}
+use Rattle.kit_ground.specs.Rules.{own_at_first}
+use Rattle.kit_ground.proofs.PlainSeats.{seated_at, seated_is}
+use Rattle.kit_courier.specs.declared.view.CourierView.{CourierView}
+use Rattle.kit_courier.specs.declared.view.Letter.{Letter}
+use Rattle.kit_courier.specs.declared.view.Receipt.{Receipt}
+use Rattle.kit_courier.specs.Calls.{IsReceived, IsUnmoved}
+use Rattle.kit_courier.specs.Couriers.{courier_rule}
+use Rattle.kit_courier.specs.Deliveries.{courier_first, newcomer}
+use Rattle.kit_courier.specs.Letters.{sent_by}
+use Rattle.kit_courier.proofs.LetterSteps.{sent_here}
+use Rattle.kit_courier.proofs.Openings.{nothing_in}
+
+abbrev F : Type 0
+F = Floor (Unit {0}) CourierView
+
+abbrev at : F → Place CourierView
+at f = place_of courier_first f
+
+pub if_some : {A : Type 0} (o : Option A) (P : Type 0) (Q R : A → Type 0) → ((x : A) → Q x → R x) → MatchOption o P Q → IfSome o R
+if_some None P Q R leads h = tt
+if_some (Some x) P Q R leads h = leads x h
+
+abbrev receipt_of : Letter → Receipt
+receipt_of letter = record { from = 0; letter = letter }
+
+-- what was got, of one who had got nothing
+pub got_from : (p q : Place CourierView) (o : Option Letter) → p.client.got ≡ [] → MatchOption o (IsUnmoved p 0 q) (λ letter. IsReceived p 0 letter q) → q.client.got ≡ map receipt_of (option_to_list o)
+got_from p q None new h = h.got ∙ new
+got_from p q (Some letter) new h = h.got ∙ ap (λ l. l ++ receipt_of letter ∷ []) new
+
+-- whoever sent at most one letter sent no other
+only_letter : (t : Bool) (letter x : Letter) → Contains (if t then [] ++ letter ∷ [] else []) x → x ≡ letter
+only_letter true letter x has = ⊎_elim (λ none. absurd (nothing_in x none)) (λ e. sym e) (Contains-push_cases [] letter x has)
+only_letter false letter x has = absurd (nothing_in x has)
+
+-- f is new, the first has come to g, and then the second is seated
+module _ (f g h : F) (new : f ≡ opened courier_first tt 2 1) (first : Came courier_first f g) (seats : h ≡ record g { seated = 1 }) where
+  seated_first : f.seated ≡ 0
+  seated_first = ap (λ (x : F). x.seated) new
+
+  seated_second : h.seated ≡ 1
+  seated_second = ap (λ (x : F). x.seated) seats
+
+  two : length g.places ≡ 2
+  two = first.many ∙ ap (λ (x : F). length x.places) new
+
+  -- the second is as it was
+  pub second_new : at h ≡ record { own = own_at_first 2 1 1; client = newcomer }
+  second_new = seated_is courier_first h 1 seated_second (record { own = own_at_first 2 1 1; client = newcomer })
+      (ap (λ (x : F). get_elem? x.places 1) seats ∙ (first.others 1 (λ e. let z : 1 ≡ f.seated = e in let s = seated_first in absurd (omega arith)) ∙ ap (λ (x : F). get_elem? x.places 1) new))
+
+  -- the second has come to k
+  module _ (k : F) (second : Came courier_first h k) where
+    first_there : get_elem? k.places 0 ≡ some (at g)
+    first_there = second.others 0 (λ e. let z : 0 ≡ h.seated = e in let s = seated_second in absurd (omega arith))
+        ∙ (ap (λ (x : F). get_elem? x.places 0) seats ∙ seated_at courier_first g 0 (first.seated ∙ seated_first) (let t = two in omega arith))
+
+    second_there : get_elem? k.places 1 ≡ some (at k)
+    second_there =
+        let many : length k.places ≡ length g.places = second.many ∙ ap (λ (x : F). length x.places) seats in
+        let t = two in
+        seated_at courier_first k 1 (second.seated ∙ seated_second) (omega arith)
+
+    -- what it got is the letter that the first sent
+    pub got_is_sent : (t : Bool) (letter got : Letter) → Ruled courier_rule k → (at g).client.sent ≡ (if t then (at f).client.sent ++ letter ∷ [] else (at f).client.sent) → IsReceived (at h) 0 got (at k) → got ≡ letter
+    got_is_sent t letter got ruled sent received =
+        let receipt : Receipt = record { from = 0; letter = got } in
+        let has : Contains (at k).client.got receipt = subst (λ (l : List Receipt). Contains l receipt) (sym received.got) (Contains-push (at h).client.got receipt) in
+        let was : Contains (sent_by k.places 0) got = (ruled.words.client.letters.each 1 (at k) second_there).got receipt has in
+        let all : sent_by k.places 0 ≡ (if t then [] ++ letter ∷ [] else []) = sent_here k.places 0 (at g) first_there ∙ (sent ∙ ap (λ (x : F). if t then (at x).client.sent ++ letter ∷ [] else (at x).client.sent) new) in
+        only_letter t letter got (subst (λ (l : List Letter). Contains l got) all was)

@@ -1,0 +1,10 @@
+use Rattle.std.proofs.Common.{w64, ◌<◌, arith}
+use Rattle.std.proofs.Math.Facts.{Fits-lt-pow}
+use Rattle.std.proofs.lemmas.Nat.Bits.{bit_at-trailing_zeros}
+use Rattle.kit_courier.proofs.letters.lowest.Goals as goal
+
+pub returns-clause-posted : goal.returns-clause-posted
+returns-clause-posted c = let some : 0 < c.args.mail = omega (arith, c.requires) in (bit_at-trailing_zeros w64 c.args.mail some (Fits-lt-pow c.ranges.mail)).1
+
+pub returns-clause-least : goal.returns-clause-least
+returns-clause-least c = let some : 0 < c.args.mail = omega (arith, c.requires) in (bit_at-trailing_zeros w64 c.args.mail some (Fits-lt-pow c.ranges.mail)).2

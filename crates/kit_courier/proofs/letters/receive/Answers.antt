@@ -1,0 +1,186 @@
+use Rattle.std.proofs.Common.{◌<◌, ℕ, refl, sym, ap, ◌∙◌, subst}
+use Rattle.std.specs.Int.{bit_at}
+use Rattle.kit_ground.specs.declared.address.Address.TheVariants.{Count, Part}
+use Rattle.kit_ground.specs.declared.place.Deed.TheVariants.{ReadPart, Released}
+use Rattle.kit_ground.specs.declared.place.Place.{Place}
+use Rattle.kit_ground.specs.Rules.{Keeps, Told}
+use Rattle.kit_ground.proofs.PlaceSteps.{stage}
+use Rattle.kit_courier.specs.declared.view.CourierView.{CourierView}
+use Rattle.kit_courier.specs.declared.view.Letter.{Letter}
+use Rattle.kit_courier.specs.Calls.{HasCollected, IsReceived, held_of}
+use Rattle.kit_courier.specs.Couriers.{courier_rule}
+use Rattle.kit_courier.specs.Deliveries.{delivered}
+use Rattle.kit_courier.proofs.Receives.{after_collect, arrives, collects_once, held, in_buffers, in_holds, in_mail, with_body, with_head}
+use Rattle.kit_courier.proofs.Receiving.{collects, reads_body, reads_head, releases}
+use Rattle.kit_courier.proofs.letters.receive.Goals as goal
+
+abbrev P : Type 0
+P = Place CourierView
+
+pub collect-mail-requires-clause-rule : goal.collect-mail-requires-clause-rule
+collect-mail-requires-clause-rule g c = collects _ _
+
+pub read_part-head-requires-clause-buffer : goal.read_part-head-requires-clause-buffer
+read_part-head-requires-clause-buffer g c =
+    let p : P = g.G.Ground.place c.args.seat.now in
+    let i : ℕ = c.args.from in
+    let mail : ℕ = c.collect-mail.result in
+    let k : ℕ = c.lowest-buffer.result in
+    let t = c.collect-mail.ensures.told in
+    let within = in_buffers p i k c.requires.from c.lowest-buffer.ensures.posted t in
+    let at1 = c.collect-mail.ensures.place in
+    subst (λ (q : P). k < q.own.buffers) (sym at1) within
+
+pub read_part-head-requires-clause-held : goal.read_part-head-requires-clause-held
+read_part-head-requires-clause-held g c =
+    let p : P = g.G.Ground.place c.args.seat.now in
+    let i : ℕ = c.args.from in
+    let mail : ℕ = c.collect-mail.result in
+    let k : ℕ = c.lowest-buffer.result in
+    let t = c.collect-mail.ensures.told in
+    let wide = in_holds p i c.requires.from t in
+    let at1 = c.collect-mail.ensures.place in
+    ap (λ (q : P). bit_at (held_of q i) k) at1 ∙ held p i mail k 0 0 wide c.lowest-buffer.ensures.posted
+
+pub read_part-head-requires-clause-rule : goal.read_part-head-requires-clause-rule
+read_part-head-requires-clause-rule g c =
+    let p : P = g.G.Ground.place c.args.seat.now in
+    let i : ℕ = c.args.from in
+    let mail : ℕ = c.collect-mail.result in
+    let k : ℕ = c.lowest-buffer.result in
+    let t = c.collect-mail.ensures.told in
+    let wide = in_holds p i c.requires.from t in
+    let within = in_buffers p i k c.requires.from c.lowest-buffer.ensures.posted t in
+    let at1 = c.collect-mail.ensures.place in
+    subst (λ (q : P). Keeps courier_rule delivered q (Part i k 0) (λ word. ReadPart i k 0 word)) (sym at1) (reads_head (after_collect p i mail k 0 0) i k c.requires.from within (held p i mail k 0 0 wide c.lowest-buffer.ensures.posted))
+
+pub read_part-body-requires-clause-buffer : goal.read_part-body-requires-clause-buffer
+read_part-body-requires-clause-buffer g c =
+    let p : P = g.G.Ground.place c.args.seat.now in
+    let i : ℕ = c.args.from in
+    let mail : ℕ = c.collect-mail.result in
+    let k : ℕ = c.lowest-buffer.result in
+    let t = c.collect-mail.ensures.told in
+    let within = in_buffers p i k c.requires.from c.lowest-buffer.ensures.posted t in
+    let at1 = c.collect-mail.ensures.place in
+    let head : ℕ = c.read_part-head.result in
+    let at2 = stage delivered (ReadPart i k 0 head) (after_collect p i mail k 0 0) _ _ c.read_part-head.ensures.place at1 in
+    subst (λ (q : P). k < q.own.buffers) (sym at2) within
+
+pub read_part-body-requires-clause-held : goal.read_part-body-requires-clause-held
+read_part-body-requires-clause-held g c =
+    let p : P = g.G.Ground.place c.args.seat.now in
+    let i : ℕ = c.args.from in
+    let mail : ℕ = c.collect-mail.result in
+    let k : ℕ = c.lowest-buffer.result in
+    let t = c.collect-mail.ensures.told in
+    let wide = in_holds p i c.requires.from t in
+    let at1 = c.collect-mail.ensures.place in
+    let head : ℕ = c.read_part-head.result in
+    let at2 = stage delivered (ReadPart i k 0 head) (after_collect p i mail k 0 0) _ _ c.read_part-head.ensures.place at1 in
+    ap (λ (q : P). bit_at (held_of q i) k) at2 ∙ held p i mail k 0 0 wide c.lowest-buffer.ensures.posted
+
+pub read_part-body-requires-clause-rule : goal.read_part-body-requires-clause-rule
+read_part-body-requires-clause-rule g c =
+    let p : P = g.G.Ground.place c.args.seat.now in
+    let i : ℕ = c.args.from in
+    let mail : ℕ = c.collect-mail.result in
+    let k : ℕ = c.lowest-buffer.result in
+    let t = c.collect-mail.ensures.told in
+    let at1 = c.collect-mail.ensures.place in
+    let head : ℕ = c.read_part-head.result in
+    let at2 = stage delivered (ReadPart i k 0 head) (after_collect p i mail k 0 0) _ _ c.read_part-head.ensures.place at1 in
+    subst (λ (q : P). Keeps courier_rule delivered q (Part i k 1) (λ word. ReadPart i k 1 word)) (sym at2) (reads_body (with_head p i mail k head 0) i k head refl)
+
+pub release-requires-clause-buffer : goal.release-requires-clause-buffer
+release-requires-clause-buffer g c =
+    let p : P = g.G.Ground.place c.args.seat.now in
+    let i : ℕ = c.args.from in
+    let mail : ℕ = c.collect-mail.result in
+    let k : ℕ = c.lowest-buffer.result in
+    let t = c.collect-mail.ensures.told in
+    let within = in_buffers p i k c.requires.from c.lowest-buffer.ensures.posted t in
+    let at1 = c.collect-mail.ensures.place in
+    let head : ℕ = c.read_part-head.result in
+    let at2 = stage delivered (ReadPart i k 0 head) (after_collect p i mail k 0 0) _ _ c.read_part-head.ensures.place at1 in
+    let body : ℕ = c.read_part-body.result in
+    let at3 = stage delivered (ReadPart i k 1 body) (with_head p i mail k head body) _ _ c.read_part-body.ensures.place at2 in
+    subst (λ (q : P). k < q.own.buffers) (sym at3) within
+
+pub release-requires-clause-held : goal.release-requires-clause-held
+release-requires-clause-held g c =
+    let p : P = g.G.Ground.place c.args.seat.now in
+    let i : ℕ = c.args.from in
+    let mail : ℕ = c.collect-mail.result in
+    let k : ℕ = c.lowest-buffer.result in
+    let t = c.collect-mail.ensures.told in
+    let wide = in_holds p i c.requires.from t in
+    let at1 = c.collect-mail.ensures.place in
+    let head : ℕ = c.read_part-head.result in
+    let at2 = stage delivered (ReadPart i k 0 head) (after_collect p i mail k 0 0) _ _ c.read_part-head.ensures.place at1 in
+    let body : ℕ = c.read_part-body.result in
+    let at3 = stage delivered (ReadPart i k 1 body) (with_head p i mail k head body) _ _ c.read_part-body.ensures.place at2 in
+    ap (λ (q : P). bit_at (held_of q i) k) at3 ∙ held p i mail k 0 0 wide c.lowest-buffer.ensures.posted
+
+pub release-requires-clause-rule : goal.release-requires-clause-rule
+release-requires-clause-rule g c =
+    let p : P = g.G.Ground.place c.args.seat.now in
+    let i : ℕ = c.args.from in
+    let mail : ℕ = c.collect-mail.result in
+    let k : ℕ = c.lowest-buffer.result in
+    let t = c.collect-mail.ensures.told in
+    let wide = in_holds p i c.requires.from t in
+    let within = in_buffers p i k c.requires.from c.lowest-buffer.ensures.posted t in
+    let at1 = c.collect-mail.ensures.place in
+    let head : ℕ = c.read_part-head.result in
+    let at2 = stage delivered (ReadPart i k 0 head) (after_collect p i mail k 0 0) _ _ c.read_part-head.ensures.place at1 in
+    let body : ℕ = c.read_part-body.result in
+    let at3 = stage delivered (ReadPart i k 1 body) (with_head p i mail k head body) _ _ c.read_part-body.ensures.place at2 in
+    subst (λ (q : P). Keeps courier_rule delivered q (Count i k) (λ _. Released i k)) (sym at3) (releases (with_body p i mail k head body) i k c.requires.from within (held p i mail k 0 0 wide c.lowest-buffer.ensures.posted))
+
+pub returns-clause-came : goal.returns-clause-came
+returns-clause-came g c =
+    let on = g.met.G.Ground.came_on in
+    on _ _ _ (on _ _ _ (on _ _ _ c.collect-mail.ensures.came c.read_part-head.ensures.came) c.read_part-body.ensures.came) c.release.ensures.came
+
+pub returns-then-mail-eq0-clause-collected : goal.returns-then-mail-eq0-clause-collected
+returns-then-mail-eq0-clause-collected g c =
+    let p : P = g.G.Ground.place c.args.seat.now in
+    let i : ℕ = c.args.from in
+    let mail : ℕ = c.collect-mail.result in
+    let t = c.collect-mail.ensures.told in
+    let at1 = c.collect-mail.ensures.place in
+    subst (HasCollected p i) (sym at1) (collects_once p i c.requires.from t mail)
+
+pub returns-clause-collected : goal.returns-clause-collected
+returns-clause-collected g c =
+    let p : P = g.G.Ground.place c.args.seat.now in
+    let i : ℕ = c.args.from in
+    let mail : ℕ = c.collect-mail.result in
+    let k : ℕ = c.lowest-buffer.result in
+    let t = c.collect-mail.ensures.told in
+    let at1 = c.collect-mail.ensures.place in
+    let head : ℕ = c.read_part-head.result in
+    let at2 = stage delivered (ReadPart i k 0 head) (after_collect p i mail k 0 0) _ _ c.read_part-head.ensures.place at1 in
+    let body : ℕ = c.read_part-body.result in
+    let at3 = stage delivered (ReadPart i k 1 body) (with_head p i mail k head body) _ _ c.read_part-body.ensures.place at2 in
+    let at4 = stage delivered (Released i k) (with_body p i mail k head body) _ _ c.release.ensures.place at3 in
+    subst (HasCollected p i) (sym at4) (collects_once p i c.requires.from t mail)
+
+pub returns-clause-letter : goal.returns-clause-letter
+returns-clause-letter g c =
+    let p : P = g.G.Ground.place c.args.seat.now in
+    let i : ℕ = c.args.from in
+    let mail : ℕ = c.collect-mail.result in
+    let k : ℕ = c.lowest-buffer.result in
+    let t = c.collect-mail.ensures.told in
+    let wide = in_holds p i c.requires.from t in
+    let at1 = c.collect-mail.ensures.place in
+    let head : ℕ = c.read_part-head.result in
+    let at2 = stage delivered (ReadPart i k 0 head) (after_collect p i mail k 0 0) _ _ c.read_part-head.ensures.place at1 in
+    let body : ℕ = c.read_part-body.result in
+    let at3 = stage delivered (ReadPart i k 1 body) (with_head p i mail k head body) _ _ c.read_part-body.ensures.place at2 in
+    let at4 = stage delivered (Released i k) (with_body p i mail k head body) _ _ c.release.ensures.place at3 in
+    let letter : Letter = record { head = head; body = body } in
+    let told = subst (λ (q : P). Told courier_rule q (Part i k 1) body) at2 c.read_part-body.ensures.told in
+    subst (λ (q : P). IsReceived p i letter q) (sym at4) (arrives p i mail k head body wide c.lowest-buffer.ensures.posted (in_mail p i c.requires.from t) c.lowest-buffer.ensures.least told)

@@ -1,0 +1,28 @@
+use Rattle.std.proofs.Common.{◌+◌, ap, ◌∙◌, arith}
+use Rattle.std.specs.Prelude.{slice_index}
+use Rattle.kit_ground.specs.declared.place.Place.{Place}
+use Rattle.kit_courier.specs.declared.view.CourierView.{CourierView}
+use Rattle.kit_courier.proofs.Pairs.{got_from, got_is_sent, if_some, second_new}
+use Rattle.kit_courier.proofs.pair.hand_over.Goals as goal
+
+pub receive-got-requires-clause-from : goal.receive-got-requires-clause-from
+receive-got-requires-clause-from c =
+    let many = ap (λ (p : Place CourierView). p.own.federates) (second_new _ _ _ c.requires c.send.ensures.came c.seat.ensures) in
+    omega arith
+
+pub receive-got-requires-clause-other : goal.receive-got-requires-clause-other
+receive-got-requires-clause-other c e =
+    let number = ap (λ (p : Place CourierView). p.own.number) (second_new _ _ _ c.requires c.send.ensures.came c.seat.ensures) in
+    absurd (omega arith)
+
+pub returns-clause-letter : goal.returns-clause-letter
+returns-clause-letter c =
+    if_some _ _ _ _ (λ got received. got_is_sent _ _ _ c.requires c.send.ensures.came c.seat.ensures _ c.receive-got.ensures.came c.send.result c.args.letter got c.ruled.ensures c.send.ensures.sent received) c.receive-got.ensures.letter
+
+pub returns-clause-collected : goal.returns-clause-collected
+returns-clause-collected c =
+    c.receive-got.ensures.collected ∙ ap (λ (p : Place CourierView). slice_index p.own.collects 0 + 1) (second_new _ _ _ c.requires c.send.ensures.came c.seat.ensures)
+
+pub returns-clause-got : goal.returns-clause-got
+returns-clause-got c =
+    got_from _ _ _ (ap (λ (p : Place CourierView). p.client.got) (second_new _ _ _ c.requires c.send.ensures.came c.seat.ensures)) c.receive-got.ensures.letter

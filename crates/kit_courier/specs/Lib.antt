@@ -1,0 +1,5 @@
+pub mod Deliveries
+pub mod Clocks
+pub mod Letters
+pub mod Couriers
+pub mod Calls

@@ -1,0 +1,70 @@
+ghost use Rattle.std.specs.Prelude.{◌≡◌, ◌≢◌, ℕ, ◌<◌, ◌^◌, [], ◌∷◌, ◌++◌, if◌then◌else◌, IsTrue, MatchOption};
+ghost use Rattle.std.specs.Int.{bit_at};
+ghost use Rattle.kit_ground.specs.Steps.{buffer_of};
+ghost use Rattle.kit_courier.specs.Calls.{HasCollected, HasSeen, IsPosted, IsReceived, IsSameSeat, IsUnmoved, OwesTheSame};
+
+use crate::{Couriers, Deliveries, Letter};
+use kit_ground::Ground;
+
+/// The mask of this federate alone.
+fn only(federate: u8) -> u16
+    requires { federate < 16 }
+    ensures { result ≡ 2 ^ federate }
+{
+    1 << federate
+}
+
+/// Sends a letter in an own buffer to another federate, where the buffer is free.
+pub fn send<G: Ground<Under = Couriers>>(seat: &mut G, buffer: u16, to: u8, letter: Letter) -> bool
+    requires buffer { buffer < (G.place seat.old).own.buffers }
+    requires to { to < (G.place seat.old).own.federates }
+    requires other { to ≢ (G.place seat.old).own.number }
+    requires posted { (buffer_of (G.place seat.old).own.stock buffer).to_post ≡ 0 }
+    ensures came { G.came seat.old seat.new }
+    ensures same { IsSameSeat (G.place seat.old) (G.place seat.new) }
+    ensures free { HasSeen (G.place seat.old) buffer result (G.place seat.new) }
+    ensures sent { let sent = (G.place seat.old).client.sent in (G.place seat.new).client.sent ≡ (if result then sent ++ letter ∷ [] else sent) }
+    ensures owed { OwesTheSame (G.place seat.old) (G.place seat.new) }
+    ensures to { IsTrue result → IsPosted buffer to (G.place seat.new) }
+{
+    if !seat.look_free::<Deliveries>(buffer) {
+        return false;
+    }
+    seat.write_part::<Deliveries>(buffer, 0, letter.head);
+    seat.write_part::<Deliveries>(buffer, 1, letter.body);
+    seat.charge::<Deliveries>(buffer, only(to));
+    seat.post::<Deliveries>(buffer, to);
+    true
+}
+
+/// The lowest buffer of a mail word.
+fn lowest(mail: u64) -> u16
+    requires { mail ≢ 0 }
+    ensures posted { bit_at mail result ≡ 1 }
+    ensures least { (k : ℕ) → k < result → bit_at mail k ≡ 0 }
+{
+    mail.trailing_zeros() as u16
+}
+
+/// Collects the mail of another federate, and reads the letter of the lowest buffer that was posted.
+///
+/// The other buffers that were posted stay held.
+pub fn receive<G: Ground<Under = Couriers>>(seat: &mut G, from: u8) -> Option<Letter>
+    requires from { from < (G.place seat.old).own.federates }
+    requires other { from ≢ (G.place seat.old).own.number }
+    ensures came { G.came seat.old seat.new }
+    ensures same { IsSameSeat (G.place seat.old) (G.place seat.new) }
+    ensures owed { OwesTheSame (G.place seat.old) (G.place seat.new) }
+    ensures collected { HasCollected (G.place seat.old) from (G.place seat.new) }
+    ensures letter { MatchOption result (IsUnmoved (G.place seat.old) from (G.place seat.new)) (λ letter. IsReceived (G.place seat.old) from letter (G.place seat.new)) }
+{
+    let mail = seat.collect::<Deliveries>(from);
+    if mail == 0 {
+        return None;
+    }
+    let buffer = lowest(mail);
+    let head = seat.read_part::<Deliveries>(from, buffer, 0);
+    let body = seat.read_part::<Deliveries>(from, buffer, 1);
+    seat.release::<Deliveries>(from, buffer);
+    Some(Letter { head, body })
+}

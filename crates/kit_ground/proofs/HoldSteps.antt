@@ -1,0 +1,116 @@
+-- The rule of the sets after a step that changes which buffers the seat holds.
+use Rattle.std.proofs.Common.{◌≡◌, ◌≢◌, ℕ, ◌+◌, ◌-◌, ◌^◌, ◌<◌, ◌≤◌, max, List, length, refl, sym, ap, ◌∙◌, subst, arith, length-set}
+use Rattle.std.proofs.lemmas.Nat.{pow_pos}
+use Rattle.std.proofs.lemmas.Nat.Bits.{bit_at-lt, bit_at-zero, bit_at_or}
+use Rattle.std.specs.Prelude.{slice_index, slice_set, bit_or, bit_xor}
+use Rattle.std.specs.Int.{bit_at}
+use mathlib.Core.Logic.{dite}
+use native.Mathlib.Decide.{ℕ_discrete}
+use Rattle.kit_ground.specs.declared.address.Address.TheVariants.{Mail, Count}
+use Rattle.kit_ground.specs.declared.place.Buffer.{Buffer}
+use Rattle.kit_ground.specs.declared.place.Stock.{Stock}
+use Rattle.kit_ground.specs.Memory.{Memory, stored}
+use Rattle.kit_ground.specs.Sets.{Pool, buffer_at, due, stock_at, to_be_posted, posted, holding}
+use Rattle.kit_ground.specs.Steps.{part_of, collected, released}
+use Rattle.kit_ground.proofs.Bits.{flipped_else, flipped_here}
+use Rattle.kit_ground.proofs.Fits.{Fits, at_buffer, due_is, due_same, fits, fits_aside, pool_from_fits, seat_inside, buffers_long, holds_long}
+use Rattle.kit_ground.proofs.Memories.{stored_here, count_else, mail_else}
+use Rattle.kit_ground.proofs.SetFacts.{holding_due}
+use Rattle.kit_ground.proofs.Stocks.{with_held, reheld, buffers_kept, holds_here, holds_else}
+use Rattle.kit_ground.proofs.Sums.{sum_change}
+
+-- in one of two sets before, in the second after
+taken : (x y z : ℕ) → y < 2 → z < 2 → x + y + z ≤ 1 → x + 0 + max z y ≡ x + y + z
+taken x y z ly lz h = omega arith
+
+-- the seat `me` has the stock s, and changes its mask of the buffers of `from`
+module _ (m : Memory) (stocks : List Stock) (n b me : ℕ) (s : Stock) (h : Pool m stocks n b) (is : stock_at stocks me ≡ s) (lme : me < n) (from : ℕ) (lfrom : from < n) where
+  abbrev after : ℕ → List Stock
+  after v = reheld stocks me s from v
+
+  inside : me < length stocks
+  inside = seat_inside m stocks n b h me lme
+
+  long_buffers : length s.buffers ≡ b
+  long_buffers = buffers_long m stocks n b h me s is lme
+
+  long_holds : length s.holds ≡ n
+  long_holds = holds_long m stocks n b h me s is lme
+
+  buffer_same : (now : Memory) (v i x : ℕ) → buffer_at now (after v) i x ≡ buffer_at m stocks i x
+  buffer_same now v i x = buffers_kept stocks me s is inside from v i x
+
+  to_be_posted_same : (now : Memory) (v i x j : ℕ) → to_be_posted now (after v) i x j ≡ to_be_posted m stocks i x j
+  to_be_posted_same now v i x j = ap (λ (c : Buffer). bit_at c.to_post j) (buffer_same now v i x)
+
+  held_before : (x : ℕ) → holding m stocks from x me ≡ bit_at (slice_index s.holds from) x
+  held_before x = ap (λ (q : Stock). bit_at (slice_index q.holds from) x) is
+
+  held_here : (now : Memory) (v x : ℕ) → holding now (after v) from x me ≡ bit_at v x
+  held_here now v x = ap (λ (w : ℕ). bit_at w x) (holds_here stocks me s is inside from v (let l = long_holds in omega arith))
+
+  held_else : (now : Memory) (v i x j : ℕ) → (i ≡ from → j ≢ me) → holding now (after v) i x j ≡ holding m stocks i x j
+  held_else now v i x j apart = ap (λ (w : ℕ). bit_at w x) (holds_else stocks me s is inside from v j i (λ e a. apart a e))
+
+  from_each : (now : Memory) (v : ℕ) → ((i x : ℕ) → i < n → x < b → Fits now (after v) n i x) → ((j i : ℕ) → j < n → i < n → now (Mail j i) < 2 ^ b) → Pool now (after v) n b
+  from_each now v each narrow = pool_from_fits m stocks n b h now me (with_held from v s) inside long_buffers (length-set s.holds from v ∙ long_holds) each narrow
+
+  -- ---- a collect
+  pub collects : Pool (stored m (Mail me from) 0) (slice_set stocks me (collected from (m (Mail me from)) s)) n b
+  collects =
+      let mail : ℕ = m (Mail me from) in
+      let v : ℕ = bit_or (slice_index s.holds from) mail in
+      let now : Memory = stored m (Mail me from) 0 in
+      let mail_here : now (Mail me from) ≡ 0 = stored_here m (Mail me from) 0 in
+      let due_here : (x : ℕ) → x < b → due now (after v) from x me ≡ due m stocks from x me =
+      λ x lx.
+      let once : to_be_posted m stocks from x me + posted m stocks from x me + holding m stocks from x me ≤ 1 = subst (λ (d : ℕ). d ≤ 1) (due_is m stocks from x me) (h.once from x me lfrom lx lme) in
+      due_is now (after v) from x me
+      ∙ ((λ t. to_be_posted_same now v from x me t + (ap (λ (w : ℕ). bit_at w x) mail_here ∙ bit_at-zero x) t + (held_here now v x ∙ (bit_at_or (slice_index s.holds from) mail x ∙ ap (λ (z : ℕ). max z (bit_at mail x)) (sym (held_before x)))) t)
+      ∙ (taken (to_be_posted m stocks from x me) (posted m stocks from x me) (holding m stocks from x me) (bit_at-lt mail x) (bit_at-lt (slice_index (stock_at stocks me).holds from) x) once ∙ sym (due_is m stocks from x me))) in
+      let same : (i x j : ℕ) → x < b → due now (after v) i x j ≡ due m stocks i x j =
+      λ i x j lx. dite (ℕ_discrete i from)
+      (λ a. dite (ℕ_discrete j me)
+      (λ e. subst (λ (z : ℕ × ℕ). due now (after v) z.0 x z.1 ≡ due m stocks z.0 x z.1) (λ t. (sym a t, sym e t)) (due_here x lx))
+      (λ other. due_same m now stocks (after v) n i x j (to_be_posted_same now v i x j) (ap (λ (w : ℕ). bit_at w x) (mail_else m me from j i 0 (λ _. other))) (held_else now v i x j (λ _. other))))
+      (λ other. due_same m now stocks (after v) n i x j (to_be_posted_same now v i x j) (ap (λ (w : ℕ). bit_at w x) (mail_else m me from j i 0 (λ a. absurd (other a)))) (held_else now v i x j (λ a. absurd (other a)))) in
+      from_each now v (λ i x li lx. fits_aside m now stocks (after v) n i x li (fits m stocks n b h i x li lx) refl (λ p lp. refl) (buffer_same now v i x) (λ j lj. same i x j lx))
+      (λ j i lj li. dite (ℕ_discrete i from)
+      (λ a. dite (ℕ_discrete j me)
+      (λ e. subst (λ (z : ℕ × ℕ). now (Mail z.0 z.1) < 2 ^ b) (λ t. (sym e t, sym a t)) (subst (λ (z : ℕ). z < 2 ^ b) (sym mail_here) (pow_pos b)))
+      (λ other. subst (λ (z : ℕ). z < 2 ^ b) (sym (mail_else m me from j i 0 (λ _. other))) (h.narrow j i lj li)))
+      (λ other. subst (λ (z : ℕ). z < 2 ^ b) (sym (mail_else m me from j i 0 (λ a. absurd (other a)))) (h.narrow j i lj li)))
+
+  -- ---- a release
+  pub releases : (k : ℕ) → k < b → bit_at (slice_index s.holds from) k ≡ 1 → Pool (stored m (Count from k) (m (Count from k) - 1)) (slice_set stocks me (released from k s)) n b
+  releases k lk on =
+      let v : ℕ = bit_xor (slice_index s.holds from) (2 ^ k) in
+      let count : ℕ = m (Count from k) - 1 in
+      let now : Memory = stored m (Count from k) count in
+      let before = held_before k ∙ on in
+      let one = holding_due m stocks n b h from k lfrom lk me lme before in
+      let due_here : due now (after v) from k me ≡ 0 =
+      due_is now (after v) from k me ∙ (λ t. (to_be_posted_same now v from k me ∙ one.1) t + one.2 t + (held_here now v k ∙ flipped_here (slice_index s.holds from) k on) t) in
+      let due_else : (i x j : ℕ) → (i ≡ from → x ≡ k → j ≢ me) → due now (after v) i x j ≡ due m stocks i x j =
+      λ i x j apart. due_same m now stocks (after v) n i x j (to_be_posted_same now v i x j) refl
+      (dite (ℕ_discrete i from)
+      (λ a. dite (ℕ_discrete j me)
+      (λ e. subst (λ (z : ℕ × ℕ). holding now (after v) z.0 x z.1 ≡ holding m stocks z.0 x z.1) (λ t. (sym a t, sym e t))
+      (held_here now v x ∙ (flipped_else (slice_index s.holds from) k x (λ y. apart a y e) ∙ sym (held_before x))))
+      (λ other. held_else now v i x j (λ _. other)))
+      (λ other. held_else now v i x j (λ a. absurd (other a)))) in
+      let old = fits m stocks n b h from k lfrom lk in
+      let sum = sum_change (due m stocks from k) (due now (after v) from k) n me lme (λ j lj other. sym (due_else from k j (λ _ _. other))) in
+      from_each now v (at_buffer (Fits now (after v) n) n b from k (record {
+        counted = stored_here m (Count from k) count ∙ (let c = old.counted in let d = one.0 in omega arith);
+        once = λ j lj. dite (ℕ_discrete j me)
+            (λ e. subst (λ (z : ℕ). due now (after v) from k z ≤ 1) (sym e) (let z = due_here in omega arith))
+            (λ other. subst (λ (z : ℕ). z ≤ 1) (sym (due_else from k j (λ _ _. other))) (old.once j lj));
+        others = dite (ℕ_discrete from me)
+            (λ e. subst (λ (z : ℕ). due now (after v) from k z ≡ 0) (sym e) due_here)
+            (λ other. due_else from k from (λ _ _. other) ∙ old.others);
+        free = λ e. stored_here m (Count from k) count ∙ (let z = old.free (sym (ap (λ (c : Buffer). c.free) (buffer_same now v from k)) ∙ e) in omega arith);
+        content = λ p lp. old.content p lp ∙ ap (part_of p) (sym (buffer_same now v from k));
+      }) (λ i x li lx apart. fits_aside m now stocks (after v) n i x li (fits m stocks n b h i x li lx) (count_else m from k i x count apart) (λ p lp. refl) (buffer_same now v i x)
+      (λ j lj. due_else i x j (λ a y. absurd (apart a y)))))
+      h.narrow

@@ -1,0 +1,33 @@
+-- What a world tells of the place of the seat that makes a step in it.
+use Rattle.std.proofs.Common.{◌≡◌, ℕ, ◌<◌, ◌≤◌, List, length, sym, ◌∙◌, subst}
+use Rattle.std.specs.Prelude.{slice_index}
+use Rattle.std.specs.Int.{bit_at}
+use Rattle.kit_ground.specs.declared.address.Address.TheVariants.{Mail, Count}
+use Rattle.kit_ground.specs.declared.place.Place.{Place}
+use Rattle.kit_ground.specs.Memory.{Memory}
+use Rattle.kit_ground.specs.Rules.{OwnFits, Rule, World}
+use Rattle.kit_ground.proofs.PlaceFacts.{buffers_wide, held_counted, holds_wide, mailed_within}
+
+module _ {V : Type 0} (rule : Rule V) (p : Place V) (m : Memory) (places : List (Place V)) (w : World rule p m places) where
+  pub fits_here : OwnFits m (length places) p.own.buffers p.own.number p.own
+  fits_here = w.floor.each p.own.number p w.here
+
+  pub few_federates : p.own.federates ≤ 16
+  few_federates = subst (λ (n : ℕ). n ≤ 16) (sym fits_here.federates) w.floor.few
+
+  pub buffers_long : length p.own.stock.buffers ≡ p.own.buffers
+  buffers_long = buffers_wide p.own.buffers m places w.floor p.own.number p w.here
+
+  pub holds_long : length p.own.stock.holds ≡ p.own.federates
+  holds_long = holds_wide p.own.buffers m places w.floor p.own.number p w.here ∙ sym fits_here.federates
+
+  pub there : (i : ℕ) → i < p.own.federates → i < length places
+  there i li = subst (λ (n : ℕ). i < n) fits_here.federates li
+
+  -- mail is of buffers that there are
+  pub mail_is_of_buffers : (i k : ℕ) → i < p.own.federates → bit_at (m (Mail p.own.number i)) k ≡ 1 → k < p.own.buffers
+  mail_is_of_buffers i k li = mailed_within p.own.buffers m places w.floor p.own.number p w.here i k (there i li)
+
+  -- a buffer that the seat holds counts it
+  pub held_is_counted : (i k : ℕ) → i < p.own.federates → k < p.own.buffers → bit_at (slice_index p.own.stock.holds i) k ≡ 1 → 0 < m (Count i k)
+  held_is_counted i k li lk = held_counted p.own.buffers m places w.floor p.own.number p w.here i k (there i li) lk

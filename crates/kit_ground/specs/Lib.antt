@@ -1,0 +1,9 @@
+pub mod Memory
+pub mod Layout
+pub mod Steps
+pub mod Sets
+pub mod Rules
+pub mod Guests
+pub mod Words
+pub mod Floors
+pub mod Coming

@@ -1,0 +1,176 @@
+-- The floor machine: its kinds of step, where each is allowed, which word it is on, and what it does.
+use Rattle.std.specs.Prelude.{◌≡◌, ◌≢◌, ℕ, zero, suc, ◌+◌, ◌-◌, ◌*◌, ◌%◌, ◌^◌, ◌<◌, ◌==◌, Bool, true, false, List, slice_index, slice_index_or, slice_set, bit_or, bit_xor}
+use Rattle.std.specs.Int.{bit_at}
+use Rattle.std.specs.Int.Count.{ones}
+use Rattle.kit_ground.specs.declared.address.Reg.{Reg}
+use Rattle.kit_ground.specs.declared.address.Address.{Address}
+use Rattle.kit_ground.specs.declared.address.Address.TheVariants.{Register, Stop, Mail, Count, Part}
+use Rattle.kit_ground.specs.declared.place.Buffer.{Buffer}
+use Rattle.kit_ground.specs.declared.place.Deed.{Deed}
+use Rattle.kit_ground.specs.declared.place.Deed.TheVariants.{Looked, Published, Stopped, SawStop, SawFree, Wrote, Charged, PostedTo, Collected, ReadPart, Released}
+use Rattle.kit_ground.specs.declared.place.Glance.{Glance}
+use Rattle.kit_ground.specs.declared.place.Own.{Own}
+use Rattle.kit_ground.specs.declared.place.Place.{Place}
+use Rattle.kit_ground.specs.declared.place.Stock.{Stock}
+use Rattle.kit_ground.specs.Memory.{Memory, stored}
+
+-- a register of a floor of n federates
+abbrev pub IsReg : ℕ → Reg → Type 0
+IsReg n r = (r.owner < n) × (r.slot < 13)
+
+-- where a register stands among all, 13 of each federate
+abbrev pub reg_index : Reg → ℕ
+reg_index r = 13 * r.owner + r.slot
+
+-- a buffer that was never touched
+abbrev pub untouched : Buffer
+untouched = record { free = false; head = 0; body = 0; has_head = false; has_body = false; to_post = 0 }
+
+abbrev pub buffer_of : Stock → ℕ → Buffer
+buffer_of s k = slice_index_or s.buffers k untouched
+
+abbrev pub with_buffer : ℕ → Buffer → Stock → Stock
+with_buffer k c s = record s { buffers = slice_set s.buffers k c }
+
+-- the content word that the owner last wrote
+abbrev pub part_of : ℕ → Buffer → ℕ
+part_of zero c = c.head
+part_of (suc _) c = c.body
+
+-- what each step does to a buffer
+abbrev pub seen : Bool → Buffer → Buffer
+seen free c = record c { free = free }
+
+abbrev pub written : ℕ → ℕ → Buffer → Buffer
+written zero word c = record c { head = word; has_head = true }
+written (suc _) word c = record c { body = word; has_body = true }
+
+abbrev pub charged : ℕ → Buffer → Buffer
+charged mask c = record c { free = false; has_head = false; has_body = false; to_post = mask }
+
+abbrev pub posted_to : ℕ → Buffer → Buffer
+posted_to j c = record c { to_post = bit_xor c.to_post (2 ^ j) }
+
+-- the buffers of i in this mask are held from now on
+abbrev pub collected : ℕ → ℕ → Stock → Stock
+collected i mail s = record s { holds = slice_set s.holds i (bit_or (slice_index s.holds i) mail) }
+
+-- the buffer k of i is held no more
+abbrev pub released : ℕ → ℕ → Stock → Stock
+released i k s = record s { holds = slice_set s.holds i (bit_xor (slice_index s.holds i) (2 ^ k)) }
+
+abbrev pub stock_after : Deed → Stock → Stock
+stock_after (SawFree k free) s = with_buffer k (seen free (buffer_of s k)) s
+stock_after (Wrote k p word) s = with_buffer k (written p word (buffer_of s k)) s
+stock_after (Charged k mask) s = with_buffer k (charged mask (buffer_of s k)) s
+stock_after (PostedTo k j) s = with_buffer k (posted_to j (buffer_of s k)) s
+stock_after (Collected i mail) s = collected i mail s
+stock_after (Released i k) s = released i k s
+stock_after _ s = s
+
+-- the last looks, after the step of this number
+abbrev pub registers_after : Deed → ℕ → List (Glance ℕ) → List (Glance ℕ)
+registers_after (Looked r word) step seen = slice_set seen (reg_index r) (record { step = step; gave = word })
+registers_after _ step seen = seen
+
+abbrev pub counts_after : Deed → ℕ → List (Glance Bool) → List (Glance Bool)
+counts_after (SawFree k free) step seen = slice_set seen k (record { step = step; gave = free })
+counts_after _ step seen = seen
+
+abbrev pub mail_after : Deed → ℕ → List (Glance ℕ) → List (Glance ℕ)
+mail_after (Collected i mail) step seen = slice_set seen i (record { step = step; gave = mail })
+mail_after _ step seen = seen
+
+abbrev pub stop_after : Deed → ℕ → Glance Bool → Glance Bool
+stop_after (SawStop set) step seen = record { step = step; gave = set }
+stop_after _ step seen = seen
+
+abbrev pub shown_after : Deed → List ℕ → List ℕ
+shown_after (Published r word) shown = slice_set shown r.slot word
+shown_after _ shown = shown
+
+abbrev pub collects_after : Deed → List ℕ → List ℕ
+collects_after (Collected i mail) collects = slice_set collects i (slice_index collects i + 1)
+collects_after _ collects = collects
+
+abbrev pub looks_after : Deed → ℕ → ℕ
+looks_after (Looked r word) looks = looks + 1
+looks_after _ looks = looks
+
+abbrev pub stops_after : Deed → ℕ → ℕ
+stops_after Stopped stops = stops + 1
+stops_after _ stops = stops
+
+-- what a seat knows of itself after a step
+abbrev pub own_after : Deed → Own → Own
+own_after deed o = record {
+  number = o.number;
+  federates = o.federates;
+  buffers = o.buffers;
+  steps = o.steps + 1;
+  looks = looks_after deed o.looks;
+  stops = stops_after deed o.stops;
+  registers = registers_after deed (o.steps + 1) o.registers;
+  counts = counts_after deed (o.steps + 1) o.counts;
+  mail = mail_after deed (o.steps + 1) o.mail;
+  stop = stop_after deed (o.steps + 1) o.stop;
+  shown = shown_after deed o.shown;
+  collects = collects_after deed o.collects;
+  stock = stock_after deed o.stock;
+}
+
+-- which word a step is on
+abbrev pub address_of : Own → Deed → Address
+address_of o (Looked r word) = Register r
+address_of o (Published r word) = Register r
+address_of o Stopped = Stop
+address_of o (SawStop set) = Stop
+address_of o (SawFree k free) = Count o.number k
+address_of o (Wrote k p word) = Part o.number k p
+address_of o (Charged k mask) = Count o.number k
+address_of o (PostedTo k j) = Mail j o.number
+address_of o (Collected i mail) = Mail o.number i
+address_of o (ReadPart i k p word) = Part i k p
+address_of o (Released i k) = Count i k
+
+-- what that word becomes where it was `old`
+abbrev pub becomes : Deed → ℕ → ℕ
+becomes (Published r word) old = word
+becomes Stopped old = 1
+becomes (Wrote k p word) old = word
+becomes (Charged k mask) old = (old + ones mask) % 2 ^ 64
+becomes (PostedTo k j) old = bit_or old (2 ^ k)
+becomes (Collected i mail) old = 0
+becomes (Released i k) old = (old + (2 ^ 64 - 1)) % 2 ^ 64
+becomes _ old = old
+
+-- the own buffer k was seen free, is not charged since, and both its parts are written
+abbrev pub IsChargeable : Own → ℕ → Type 0
+IsChargeable o k = ((buffer_of o.stock k).free ≡ true) × ((buffer_of o.stock k).has_head ≡ true) × ((buffer_of o.stock k).has_body ≡ true)
+
+-- a set of federates to charge for: not empty, and without the seat itself
+abbrev pub IsMask : Own → ℕ → Type 0
+IsMask o mask = (mask ≢ 0) × (mask < 2 ^ o.federates) × (bit_at mask o.number ≡ 0)
+
+-- where a step is allowed, and what it answers where the word is `old`
+abbrev pub Allowed : Own → Deed → ℕ → Type 0
+Allowed o (Looked r word) old = IsReg o.federates r × (word ≡ old)
+Allowed o (Published r word) old = (r.owner ≡ o.number) × (r.slot < 13)
+Allowed o Stopped old = Unit {0}
+Allowed o (SawStop set) old = set ≡ (old == 1)
+Allowed o (SawFree k free) old = (k < o.buffers) × ((buffer_of o.stock k).to_post ≡ 0) × (free ≡ (old == 0))
+Allowed o (Wrote k p word) old = (k < o.buffers) × (p < 2) × ((buffer_of o.stock k).free ≡ true)
+Allowed o (Charged k mask) old = (k < o.buffers) × IsChargeable o k × IsMask o mask
+Allowed o (PostedTo k j) old = (k < o.buffers) × (j < o.federates) × (bit_at (buffer_of o.stock k).to_post j ≡ 1)
+Allowed o (Collected i mail) old = (i < o.federates) × (i ≢ o.number) × (mail ≡ old)
+Allowed o (ReadPart i k p word) old = (i < o.federates) × (k < o.buffers) × (p < 2) × (bit_at (slice_index o.stock.holds i) k ≡ 1) × (word ≡ old)
+Allowed o (Released i k) old = (i < o.federates) × (k < o.buffers) × (bit_at (slice_index o.stock.holds i) k ≡ 1)
+
+-- one step of the floor machine, by a seat that knows this of itself: it is allowed, and one word is stored
+pub record IsStep (o : Own) (deed : Deed) (m now : Memory) : Type 0 where
+  pub allowed : Allowed o deed (m (address_of o deed))
+  pub stores : now ≡ stored m (address_of o deed) (becomes deed (m (address_of o deed)))
+
+-- what a seat knows and its client's view, after a step
+abbrev pub acted : {V : Type 0} → (Deed → Place V → V) → Deed → Place V → Place V
+acted next deed p = record { own = own_after deed p.own; client = next deed p }
