@@ -14,14 +14,12 @@ the reading of the file left out of both.
 
 The program must have been built: ./rtik at the top does that."""
 import argparse
-import json
 import os
 import shlex
 import statistics
 import sys
-import tempfile
 
-from oracle import LOADS, RTIK, run
+from oracle import RTIK, each_load, run
 
 
 def measure(name, path, commands, repetitions):
@@ -57,19 +55,7 @@ def main():
             commands[title] = shlex.split(getattr(args, title))
     both = ["ratio"] if "alone" in commands and "read" in commands else []
     print("  ".join("%9s" % cell for cell in ["load"] + list(commands) + both))
-    only = set(filter(None, args.only.split(",")))
-    for path in args.files:
-        measure(os.path.splitext(os.path.basename(path))[0][:9], path, commands, args.repetitions)
-    if args.files:
-        return
-    with tempfile.TemporaryDirectory() as folder:
-        for name, make in LOADS.items():
-            if only and name not in only:
-                continue
-            path = os.path.join(folder, name + ".json")
-            with open(path, "w") as file:
-                json.dump(make(), file)
-            measure(name, path, commands, args.repetitions)
+    each_load(args, lambda name, path: measure(name, path, commands, args.repetitions))
 
 
 if __name__ == "__main__":

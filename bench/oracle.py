@@ -122,6 +122,23 @@ def measure(name, path, beside, repetitions):
     print("  ".join("%9s" % cell for cell in row), flush=True)
 
 
+def each_load(args, measure_one):
+    """Measures each file, or where there is none each load that is asked for."""
+    for path in args.files:
+        measure_one(os.path.splitext(os.path.basename(path))[0][:9], path)
+    if args.files:
+        return
+    only = set(filter(None, args.only.split(",")))
+    with tempfile.TemporaryDirectory() as folder:
+        for name, make in LOADS.items():
+            if only and name not in only:
+                continue
+            path = os.path.join(folder, name + ".json")
+            with open(path, "w") as file:
+                json.dump(make(), file)
+            measure_one(name, path)
+
+
 def main():
     parser = argparse.ArgumentParser(usage=__doc__)
     parser.add_argument("--beside", default="")
@@ -134,19 +151,7 @@ def main():
     beside = shlex.split(args.beside)
     head = ["load"] + ["seconds", "Mgrants/s", "Mdeliv/s", "MB/s"] * (2 if beside else 1) + (["ratio"] if beside else [])
     print("  ".join("%9s" % cell for cell in head))
-    only = set(filter(None, args.only.split(",")))
-    if args.files:
-        for path in args.files:
-            measure(os.path.splitext(os.path.basename(path))[0][:9], path, beside, args.repetitions)
-        return
-    with tempfile.TemporaryDirectory() as folder:
-        for name, make in LOADS.items():
-            if only and name not in only:
-                continue
-            path = os.path.join(folder, name + ".json")
-            with open(path, "w") as file:
-                json.dump(make(), file)
-            measure(name, path, beside, args.repetitions)
+    each_load(args, lambda name, path: measure(name, path, beside, args.repetitions))
 
 
 if __name__ == "__main__":

@@ -4,12 +4,14 @@
 
 mod clocks;
 mod couriers;
+mod laws;
 mod letters;
 mod pair;
 mod view;
 
 pub use clocks::advance;
 pub use couriers::{Couriers, Deliveries};
+pub use laws::guests_learn;
 pub use letters::{receive, send};
 pub use pair::{exchange, hand_over};
 pub use view::{CourierView, Letter, Reading, Receipt};

@@ -13,6 +13,7 @@ pub mod SetSteps
 pub mod OwnSteps
 pub mod FloorSteps
 pub mod WordSteps
+pub mod LawSteps
 pub mod HeldMasks
 pub mod PlaceFacts
 pub mod PlaceSteps

@@ -7,3 +7,4 @@ pub mod Guests
 pub mod Words
 pub mod Floors
 pub mod Coming
+pub mod Laws

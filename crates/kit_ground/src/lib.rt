@@ -4,11 +4,13 @@
 mod address;
 mod bare;
 mod ground;
+mod laws;
 mod place;
 mod plain;
 
 pub use address::{Address, Reg};
 pub use bare::{Bare, Unmoved};
 pub use ground::{Event, Ground, Protocol};
+pub use laws::{readers_are_counted, steps_keep_the_rules, words_stand_apart};
 pub use place::{Buffer, Deed, Glance, Own, Place, Stock};
 pub use plain::PlainFloor;
