@@ -1,13 +1,21 @@
 -- Two federates on a plain floor, of whom the first sends and then the second receives.
-use Rattle.std.proofs.Common.{Bool, true, false, ◌≡◌, if◌then◌else◌, List, [], ◌∷◌, ◌++◌, length, sym, ap, ◌∙◌, subst, ⊎_elim, arith}
+use Rattle.std.proofs.Common.{Bool, true, false, ◌≡◌, ◌==◌, ℕ, ◌^◌, refl, if◌then◌else◌, List, [], ◌∷◌, ◌++◌, length, sym, ap, ◌∙◌, subst, ⊎_elim, arith}
 use Rattle.std.proofs.lemmas.List.Elements.{Contains-push, Contains-push_cases}
-use Rattle.std.specs.Prelude.{Contains, IfSome, map, option_to_list, MatchOption, Option, None, Some}
+use Rattle.std.proofs.lemmas.Nat.Bits.{bit_at-zero}
+use Rattle.std.specs.Int.{bit_at}
+use Rattle.std.specs.Prelude.{bit_or, Contains, IfSome, map, option_to_list, MatchOption, Option, None, Some}
 use mathlib.Core.Option.{some}
 use lib.ListN.{get_elem?}
+use Rattle.kit_ground.specs.declared.address.Address.TheVariants.{Count, Mail}
+use Rattle.kit_ground.specs.declared.place.Deed.TheVariants.{Collected, PostedTo, SawFree}
 use Rattle.kit_ground.specs.declared.place.Place.{Place}
-use Rattle.kit_ground.specs.Coming.{Came}
-use Rattle.kit_ground.specs.Floors.{Floor, Ruled, opened, place_of}
-use Rattle.kit_ground.specs.Rules.{own_at_first}
+use Rattle.kit_ground.specs.Coming.{Came, Did}
+use Rattle.kit_ground.specs.Floors.{Floor, Ruled, memory, opened, place_of}
+use Rattle.kit_ground.specs.Memory.{Memory, stored}
+use Rattle.kit_ground.specs.Rules.{blank, own_at_first}
+use Rattle.kit_ground.proofs.Bits.{joined_here}
+use Rattle.kit_ground.proofs.Layouts.{memory_blank}
+use Rattle.kit_ground.proofs.Memories.{stored_here}
 use Rattle.kit_ground.proofs.PlainSeats.{seated_at, seated_is}
 use Rattle.kit_courier.specs.declared.view.CourierView.{CourierView}
 use Rattle.kit_courier.specs.declared.view.Letter.{Letter}
@@ -19,7 +27,7 @@ use Rattle.kit_courier.specs.Letters.{sent_by}
 use Rattle.kit_courier.proofs.LetterSteps.{sent_here}
 use Rattle.kit_courier.proofs.Openings.{nothing_in}
 
-abbrev F : Type 0
+abbrev pub F : Type 0
 F = Floor (Unit {0}) CourierView
 
 abbrev at : F → Place CourierView
@@ -78,3 +86,29 @@ module _ (f g h : F) (new : f ≡ opened courier_first tt 2 1) (first : Came cou
         let was : Contains (sent_by k.places 0) got = (ruled.words.client.letters.each 1 (at k) second_there).got receipt has in
         let all : sent_by k.places 0 ≡ (if t then [] ++ letter ∷ [] else []) = sent_here k.places 0 (at g) first_there ∙ (sent ∙ ap (λ (x : F). if t then (at x).client.sent ++ letter ∷ [] else (at x).client.sent) new) in
         only_letter t letter got (subst (λ (l : List Letter). Contains l got) all was)
+
+-- a new floor's first look finds its buffer free
+pub free_at_first : (f g : F) (t : Bool) → f ≡ opened courier_first tt 2 1 → Did courier_first f (SawFree 0 t) g → t ≡ true
+free_at_first f g t new did =
+    let zeros : memory f ≡ blank = ap memory new ∙ memory_blank 2 1 in
+    did.step.allowed.2 ∙ ap (λ (m : Memory). m (Count (at f).own.number 0) == 0) zeros
+
+-- after the first posted its buffer, the second's mail has its bit
+pub mail_has : (g k : F) → (at g).own.number ≡ 0 → Did courier_first g (PostedTo 0 1) k → bit_at (memory k (Mail 1 0)) 0 ≡ 1
+mail_has g k zero did =
+    let was : ℕ = memory g (Mail 1 (at g).own.number) in
+    let now = did.step.stores ∙ (λ i. stored (memory g) (Mail 1 (zero i)) (bit_or was (2 ^ 0))) in
+    ap (λ (m : Memory). bit_at (m (Mail 1 0)) 0) now ∙ (ap (λ (v : ℕ). bit_at v 0) (stored_here (memory g) (Mail 1 0) (bit_or was (2 ^ 0))) ∙ joined_here was 0)
+
+-- so what the second collects is not 0
+pub not_none : (h k : F) (mail : ℕ) (o : Option Letter) → (at h).own.number ≡ 1 → bit_at (memory h (Mail 1 0)) 0 ≡ 1 → Did courier_first h (Collected 0 mail) k → (o ≡ None → mail ≡ 0) → o ≡ None → ⊥
+not_none h k mail o one on did none e =
+    let found : mail ≡ memory h (Mail 1 0) = did.step.allowed.2 ∙ ap (λ (j : ℕ). memory h (Mail j 0)) one in
+    let off : bit_at mail 0 ≡ 0 = ap (λ (m : ℕ). bit_at m 0) (none e) ∙ bit_at-zero 0 in
+    let same : bit_at mail 0 ≡ bit_at (memory h (Mail 1 0)) 0 = ap (λ (m : ℕ). bit_at m 0) found in
+    omega (arith, off, same, on)
+
+-- an answer that is there, and is the letter
+pub is_some : (o : Option Letter) (letter : Letter) → (o ≡ None → ⊥) → IfSome o (λ got. got ≡ letter) → o ≡ Some letter
+is_some None letter came h = absurd (came refl)
+is_some (Some got) letter came h = ap Some h

@@ -1,5 +1,6 @@
-ghost use Rattle.std.specs.Prelude.{◌≡◌, ◌≢◌, ℕ, ◌<◌, ◌^◌, [], ◌∷◌, ◌++◌, if◌then◌else◌, IsTrue, MatchOption};
+ghost use Rattle.std.specs.Prelude.{◌≡◌, ◌≢◌, ℕ, ◌<◌, ◌^◌, [], ◌∷◌, ◌++◌, if◌then◌else◌, IsTrue, MatchOption, None};
 ghost use Rattle.std.specs.Int.{bit_at};
+ghost use Rattle.kit_ground.specs.declared.place.Deed.TheVariants.{Collected, PostedTo, SawFree};
 ghost use Rattle.kit_ground.specs.Steps.{buffer_of};
 ghost use Rattle.kit_courier.specs.Calls.{HasCollected, HasSeen, IsPosted, IsReceived, IsSameSeat, IsUnmoved, OwesTheSame};
 
@@ -22,10 +23,12 @@ pub fn send<G: Ground<Under = Couriers>>(seat: &mut G, buffer: u16, to: u8, lett
     requires posted { (buffer_of (G.place seat.old).own.stock buffer).to_post ≡ 0 }
     ensures came { G.came seat.old seat.new }
     ensures same { IsSameSeat (G.place seat.old) (G.place seat.new) }
+    ensures look { (after : G) × G.did seat.old (SawFree buffer result) after }
     ensures free { HasSeen (G.place seat.old) buffer result (G.place seat.new) }
     ensures sent { let sent = (G.place seat.old).client.sent in (G.place seat.new).client.sent ≡ (if result then sent ++ letter ∷ [] else sent) }
     ensures owed { OwesTheSame (G.place seat.old) (G.place seat.new) }
     ensures to { IsTrue result → IsPosted buffer to (G.place seat.new) }
+    ensures post { IsTrue result → (before : G) × G.did before (PostedTo buffer to) seat.new × IsSameSeat (G.place seat.old) (G.place before) }
 {
     if !seat.look_free::<Deliveries>(buffer) {
         return false;
@@ -55,6 +58,7 @@ pub fn receive<G: Ground<Under = Couriers>>(seat: &mut G, from: u8) -> Option<Le
     ensures came { G.came seat.old seat.new }
     ensures same { IsSameSeat (G.place seat.old) (G.place seat.new) }
     ensures owed { OwesTheSame (G.place seat.old) (G.place seat.new) }
+    ensures collect { (mail : ℕ) × (after : G) × G.did seat.old (Collected from mail) after × (result ≡ None → mail ≡ 0) }
     ensures collected { HasCollected (G.place seat.old) from (G.place seat.new) }
     ensures letter { MatchOption result (IsUnmoved (G.place seat.old) from (G.place seat.new)) (λ letter. IsReceived (G.place seat.old) from letter (G.place seat.new)) }
 {

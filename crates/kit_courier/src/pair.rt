@@ -1,4 +1,4 @@
-ghost use Rattle.std.specs.Prelude.{◌≡◌, ℕ, ◌++◌, map, option_to_list, replicate, slice_index, IfOk, IfSome};
+ghost use Rattle.std.specs.Prelude.{◌≡◌, ℕ, ◌++◌, map, option_to_list, replicate, slice_index, IfOk, Some};
 ghost use Rattle.kit_ground.specs.Floors.{opened, place_of};
 ghost use Rattle.kit_courier.specs.Deliveries.{courier_first};
 
@@ -9,7 +9,7 @@ use std::alloc::{AllocError, Global};
 /// The first federate of a new floor sends a letter to the second, which receives what came.
 pub fn hand_over(floor: &mut PlainFloor<Couriers>, letter: Letter) -> Option<Letter>
     requires { floor.old ≡ opened courier_first tt 2 1 }
-    ensures letter { IfSome result (λ got. got ≡ letter) }
+    ensures letter { result ≡ Some letter }
     ensures collected { slice_index (place_of courier_first floor.new).own.collects 0 ≡ 1 }
     ensures got { (place_of courier_first floor.new).client.got ≡ map (λ got. record { from = 0; letter = got }) (option_to_list result) }
     ensures steps { (sending : ℕ) × (receiving : ℕ) × (floor.new.steps ≡ replicate sending 0 ++ replicate receiving 1) }
@@ -23,9 +23,9 @@ pub fn hand_over(floor: &mut PlainFloor<Couriers>, letter: Letter) -> Option<Let
 
 /// One federate sends a letter to another, on a floor of two.
 ///
-/// What comes, if something does, is that letter. It fails only for want of memory.
+/// What comes is that letter. It fails only for want of memory.
 pub fn exchange(alloc: Global, letter: Letter) -> Result<Option<Letter>, AllocError>
-    ensures { IfOk result (λ came. IfSome came (λ got. got ≡ letter)) }
+    ensures { IfOk result (λ came. came ≡ Some letter) }
 {
     let mut floor = PlainFloor::<Couriers>::new(alloc, 2, 1, &())?;
     Ok(hand_over(&mut floor, letter))

@@ -1,8 +1,12 @@
-use Rattle.std.proofs.Common.{◌+◌, ap, ◌∙◌, arith}
+use Rattle.std.specs.Int.{bit_at}
+use Rattle.kit_ground.specs.declared.address.Address.TheVariants.{Mail}
+use Rattle.kit_ground.specs.Floors.{memory, place_of}
+use Rattle.kit_courier.specs.Deliveries.{courier_first}
+use Rattle.std.proofs.Common.{◌≡◌, ◌+◌, ap, ◌∙◌, arith}
 use Rattle.std.specs.Prelude.{slice_index}
 use Rattle.kit_ground.specs.declared.place.Place.{Place}
 use Rattle.kit_courier.specs.declared.view.CourierView.{CourierView}
-use Rattle.kit_courier.proofs.Pairs.{got_from, got_is_sent, if_some, second_new}
+use Rattle.kit_courier.proofs.Pairs.{F, free_at_first, got_from, got_is_sent, if_some, is_some, mail_has, not_none, second_new}
 use Rattle.kit_courier.proofs.pair.hand_over.Goals as goal
 
 pub receive-got-requires-clause-from : goal.receive-got-requires-clause-from
@@ -17,7 +21,15 @@ receive-got-requires-clause-other c e =
 
 pub returns-clause-letter : goal.returns-clause-letter
 returns-clause-letter c =
-    if_some _ _ _ _ (λ got received. got_is_sent _ _ _ c.requires c.send.ensures.came c.seat.ensures _ c.receive-got.ensures.came c.send.result c.args.letter got c.ruled.ensures c.send.ensures.sent received) c.receive-got.ensures.letter
+    let second = second_new _ _ _ c.requires c.send.ensures.came c.seat.ensures in
+    let free = free_at_first _ _ _ c.requires c.send.ensures.look.1 in
+    let post = c.send.ensures.post free in
+    let zero : (place_of courier_first post.0).own.number ≡ 0 = post.2.number ∙ ap (λ (f : F). (place_of courier_first f).own.number) c.requires in
+    let bit = mail_has _ _ zero post.1 in
+    let on = ap (λ (f : F). bit_at (memory f (Mail 1 0)) 0) c.seat.ensures ∙ bit in
+    let took = c.receive-got.ensures.collect in
+    is_some _ _ (not_none _ _ _ _ (ap (λ (p : Place CourierView). p.own.number) second) on took.2 took.3)
+    (if_some _ _ _ _ (λ got received. got_is_sent _ _ _ c.requires c.send.ensures.came c.seat.ensures _ c.receive-got.ensures.came c.send.result c.args.letter got c.ruled.ensures c.send.ensures.sent received) c.receive-got.ensures.letter)
 
 pub returns-clause-collected : goal.returns-clause-collected
 returns-clause-collected c =
