@@ -12,7 +12,7 @@ use Rattle.kit_ground.specs.Words.{RuledWords}
 use Rattle.kit_ground.proofs.WordSteps.{words_step, guests_step}
 
 module _ {V : Type 0} (rule : Rule V) where
-  module _ (b : ℕ) (words : List ℕ) (places : List (Place V)) (me : ℕ) (p : Place V) (next : Deed → Place V → V) (a : Address) (deed : ℕ → Deed) (found : ℕ) (s : IsStepOn rule b words places me p next a (deed found) found) where
+  module _ (b : ℕ) (words : List ℕ) (places : List (Place V)) (me : ℕ) (p : Place V) (next : Deed → Place V → V) (a : Address) (deed : ℕ → Deed) (found : ℕ) (s : IsStepOn rule b words places me p a (deed found) found) where
     address : a ≡ address_of p.own (deed (memory_of (length places) b words a))
     address = s.address_is ∙ ap (λ (x : ℕ). address_of p.own (deed x)) s.found_is
 

@@ -47,26 +47,26 @@ StepsKeepTheFloor V = (b : ℕ) (m : Memory) (places : List (Place V)) (me : ℕ
     → Floored b (stored m (address_of p.own deed) (becomes deed (m (address_of p.own deed)))) (slice_set places me (acted next deed p))
 
 -- a step that is allowed on a floor of words, with what was found there
-pub record IsStepOn {V : Type 0} (rule : Rule V) (b : ℕ) (words : List ℕ) (places : List (Place V)) (me : ℕ) (p : Place V) (next : Deed → Place V → V) (a : Address) (deed : Deed) (found : ℕ) : Type 0 where
+pub record IsStepOn {V : Type 0} (rule : Rule V) (b : ℕ) (words : List ℕ) (places : List (Place V)) (me : ℕ) (p : Place V) (a : Address) (deed : Deed) (found : ℕ) : Type 0 where
   pub rules : RuledWords rule b words places
   pub here : get_elem? places me ≡ some p
   pub found_is : found ≡ memory_of (length places) b words a
   pub address_is : a ≡ address_of p.own deed
   pub allowed : Allowed p.own deed found
 
--- the words and the places after it
+-- the words after it
 abbrev pub words_after_step : {V : Type 0} → ℕ → List ℕ → List (Place V) → Address → Deed → ℕ → List ℕ
 words_after_step b words places a deed found = slice_set words (index_of (length places) b a) (becomes deed found)
 
 -- over a list of words: a step that is allowed, and that keeps the client's rule in every world, keeps both rules
 abbrev pub StepsKeepBothRules : {V : Type 0} → Rule V → Type 0
 StepsKeepBothRules {V} rule = (b : ℕ) (words : List ℕ) (places : List (Place V)) (me : ℕ) (p : Place V) (next : Deed → Place V → V) (a : Address) (deed : ℕ → Deed) (found : ℕ)
-    → IsStepOn rule b words places me p next a (deed found) found → Keeps rule next p a deed
+    → IsStepOn rule b words places me p a (deed found) found → Keeps rule next p a deed
     → RuledWords rule b (words_after_step b words places a (deed found) found) (slice_set places me (acted next (deed found) p))
 
 -- and each guest keeps what the rule asks of it
 abbrev pub StepsKeepGuests : {V : Type 0} → Rule V → Type 0
 StepsKeepGuests {V} rule = (b : ℕ) (words : List ℕ) (places : List (Place V)) (me : ℕ) (p : Place V) (next : Deed → Place V → V) (a : Address) (deed : ℕ → Deed) (found : ℕ)
-    → IsStepOn rule b words places me p next a (deed found) found → Keeps rule next p a deed
+    → IsStepOn rule b words places me p a (deed found) found → Keeps rule next p a deed
     → (g : Place V) → rule.sees (memory_of (length places) b words) places g
     → rule.sees (memory_of (length places) b (words_after_step b words places a (deed found) found)) (slice_set places me (acted next (deed found) p)) g
