@@ -45,7 +45,7 @@ fn federate(
     }
     Ok(Federate {
         name: Name::of(alloc, name)?,
-        lookahead: 1,
+        lookahead: Some(1),
         advance,
         vars,
         rules,

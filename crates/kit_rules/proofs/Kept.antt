@@ -1,5 +1,5 @@
 -- What rule steps of a federation keep: steps of requests, groups of messages, and times after now.
-use Rattle.std.proofs.Common.{◌≡◌, ℕ, true, false, cond, ◌&&◌, ◌<◌, ◌≤◌, List, [], ◌∷◌, ◌++◌, length, get_or, find, Option, Some, None, IfSome, arith, refl, sym, ap, ◌∙◌}
+use Rattle.std.proofs.Common.{◌≡◌, ℕ, true, false, cond, ◌&&◌, ◌+◌, ◌<◌, ◌≤◌, List, [], ◌∷◌, ◌++◌, length, get_or, find, Option, Some, None, IfSome, arith, refl, sym, ap, ◌∙◌}
 use Rattle.std.specs.List.{All, AllByRecursion}
 use Rattle.std.specs.Option.{option_to_list, option_map}
 use Rattle.std.proofs.lemmas.List.{append_assoc, append-nil}
@@ -10,11 +10,12 @@ use Rattle.kit_rules.specs.declared.table.Action.{Action}
 use Rattle.kit_rules.specs.declared.table.Action.TheVariants as action
 use Rattle.kit_rules.specs.declared.table.Trigger.{Trigger}
 use Rattle.kit_rules.specs.declared.table.Rule.{Rule}
-use Rattle.kit_rules.specs.Parts.{Parts, federate_at, nobody}
+use Rattle.kit_rules.specs.Parts.{Parts, federate_at, nobody, effective_lookahead}
 use Rattle.kit_rules.specs.Federation.{IsFederation, IsRule, IsAction, IsWish}
 use Rattle.kit_rules.specs.declared.scene.Scene.{Scene}
 use Rattle.kit_rules.specs.declared.scene.State.{State}
 use Rattle.kit_rules.specs.Step.{is_event, message_of, retraction_of, is_target, after_action, after_actions, after_rule, after_rules, same_trigger, conditions_hold, scene_of, stepped}
+use Rattle.kit_rules.proofs.Lookaheads.{rule_effective, lookahead_is_positive}
 
 -- an Event is timed after d
 abbrev pub Later : ℕ → Message → Type 0
@@ -47,7 +48,7 @@ kept_more groups d a b c g h = record {
 }
 
 -- an action leaves a fit wish
-wish_kept : (scene : Scene) (groups vars : ℕ) (s : State) (a : Action) → IsAction groups vars scene.lookahead a → IsWish s.wish → IsWish (after_action scene s a).wish
+wish_kept : (scene : Scene) (groups vars : ℕ) (s : State) (a : Action) → IsAction groups vars (Some scene.lookahead) a → IsWish s.wish → IsWish (after_action scene s a).wish
 wish_kept scene groups vars s (action.Set v to) h w = w
 wish_kept scene groups vars s (action.Add v by) h w = w
 wish_kept scene groups vars s (action.Sub v by) h w = w
@@ -67,7 +68,7 @@ retraction_later scene s d None = tt
 retraction_later scene s d (Some m) = ((λ e. absurd (cc)), tt)
 
 -- what an action sends names a group that is there
-made_fits : (scene : Scene) (groups vars : ℕ) (s : State) (a : Action) → IsAction groups vars scene.lookahead a → AllByRecursion (HasGroup groups) s.sends → AllByRecursion (HasGroup groups) (option_to_list (message_of scene s a))
+made_fits : (scene : Scene) (groups vars : ℕ) (s : State) (a : Action) → IsAction groups vars (Some scene.lookahead) a → AllByRecursion (HasGroup groups) s.sends → AllByRecursion (HasGroup groups) (option_to_list (message_of scene s a))
 made_fits scene groups vars s (action.Set v to) h f = tt
 made_fits scene groups vars s (action.Add v by) h f = tt
 made_fits scene groups vars s (action.Sub v by) h f = tt
@@ -78,7 +79,7 @@ made_fits scene groups vars s (action.Tar n) h f = tt
 made_fits scene groups vars s (action.Ner n) h f = tt
 
 -- and an Event that it sends is timed after now
-made_later : (scene : Scene) (groups vars : ℕ) (s : State) (a : Action) → 1 ≤ scene.lookahead → IsAction groups vars scene.lookahead a → AllByRecursion (Later scene.time) (option_to_list (message_of scene s a))
+made_later : (scene : Scene) (groups vars : ℕ) (s : State) (a : Action) → 1 ≤ scene.lookahead → IsAction groups vars (Some scene.lookahead) a → AllByRecursion (Later scene.time) (option_to_list (message_of scene s a))
 made_later scene groups vars s (action.Set v to) one h = tt
 made_later scene groups vars s (action.Add v by) one h = tt
 made_later scene groups vars s (action.Sub v by) one h = tt
@@ -88,7 +89,7 @@ made_later scene groups vars s (action.Tar n) one h = tt
 made_later scene groups vars s (action.Ner n) one h = tt
 
 -- an action keeps it
-kept_by_action : (scene : Scene) (groups vars : ℕ) (s : State) (a : Action) → 1 ≤ scene.lookahead → IsAction groups vars scene.lookahead a → Kept groups scene.time s (after_action scene s a)
+kept_by_action : (scene : Scene) (groups vars : ℕ) (s : State) (a : Action) → 1 ≤ scene.lookahead → IsAction groups vars (Some scene.lookahead) a → Kept groups scene.time s (after_action scene s a)
 kept_by_action scene groups vars s a one h = record {
   wish = wish_kept scene groups vars s a h;
   fits = λ f. all-append (HasGroup groups) s.sends (option_to_list (message_of scene s a)) f (made_fits scene groups vars s a h f);
@@ -98,27 +99,29 @@ kept_by_action scene groups vars s a one h = record {
 }
 
 -- and so do several
-kept_by_actions : (scene : Scene) (groups vars : ℕ) (s : State) (as' : List Action) → 1 ≤ scene.lookahead → All (IsAction groups vars scene.lookahead) as' → Kept groups scene.time s (after_actions scene s as')
+kept_by_actions : (scene : Scene) (groups vars : ℕ) (s : State) (as' : List Action) → 1 ≤ scene.lookahead → All (IsAction groups vars (Some scene.lookahead)) as' → Kept groups scene.time s (after_actions scene s as')
 kept_by_actions scene groups vars s [] one h = kept_none groups scene.time s
 kept_by_actions scene groups vars s (a ∷ as') one h =
-    kept_more groups scene.time _ _ _ (kept_by_action scene groups vars s a one (All-head (IsAction groups vars scene.lookahead) a as' h))
-    (kept_by_actions scene groups vars (after_action scene s a) as' one (All-tail (IsAction groups vars scene.lookahead) a as' h))
+    kept_more groups scene.time _ _ _ (kept_by_action scene groups vars s a one (All-head (IsAction groups vars (Some scene.lookahead)) a as' h))
+    (kept_by_actions scene groups vars (after_action scene s a) as' one (All-tail (IsAction groups vars (Some scene.lookahead)) a as' h))
 
 -- and so does a rule
-kept_by_rule : (scene : Scene) (groups vars : ℕ) (on : Trigger) (s : State) (r : Rule) → 1 ≤ scene.lookahead → IsRule groups vars scene.lookahead r → Kept groups scene.time s (after_rule scene on s r)
+kept_by_rule : (scene : Scene) (groups vars : ℕ) (on : Trigger) (s : State) (r : Rule) → 1 ≤ scene.lookahead → IsRule groups vars (Some scene.lookahead) r → Kept groups scene.time s (after_rule scene on s r)
 kept_by_rule scene groups vars on s r one h =
     elim (same_trigger r.on on && conditions_hold scene s.vars r.conds) as (λ b. Kept groups scene.time s (cond b (after_actions scene s r.actions) s))
     [ true ↦ kept_by_actions scene groups vars s r.actions one h.actions | false ↦ kept_none groups scene.time s ]
 
 -- and so do several
-kept_by_rules : (scene : Scene) (groups vars : ℕ) (on : Trigger) (s : State) (rs : List Rule) → 1 ≤ scene.lookahead → All (IsRule groups vars scene.lookahead) rs → Kept groups scene.time s (after_rules scene on s rs)
+kept_by_rules : (scene : Scene) (groups vars : ℕ) (on : Trigger) (s : State) (rs : List Rule) → 1 ≤ scene.lookahead → All (IsRule groups vars (Some scene.lookahead)) rs → Kept groups scene.time s (after_rules scene on s rs)
 kept_by_rules scene groups vars on s [] one h = kept_none groups scene.time s
 kept_by_rules scene groups vars on s (r ∷ rs) one h =
-    kept_more groups scene.time _ _ _ (kept_by_rule scene groups vars on s r one (All-head (IsRule groups vars scene.lookahead) r rs h))
-    (kept_by_rules scene groups vars on (after_rule scene on s r) rs one (All-tail (IsRule groups vars scene.lookahead) r rs h))
+    kept_more groups scene.time _ _ _ (kept_by_rule scene groups vars on s r one (All-head (IsRule groups vars (Some scene.lookahead)) r rs h))
+    (kept_by_rules scene groups vars on (after_rule scene on s r) rs one (All-tail (IsRule groups vars (Some scene.lookahead)) r rs h))
 
 -- the rule step of a federation keeps it
 pub kept_by_step : (p : Parts) (i : ℕ) (on : Trigger) (now value : ℕ) (s : State) → IsFederation p → i < length p.federates → Kept (length p.groups) now s (stepped p i on now value s)
+unfolding effective_lookahead
 kept_by_step p i on now value s h lt =
     let f = h.federates.each i nobody lt in
-    kept_by_rules (scene_of p i now value) (length p.groups) (length (federate_at p i).vars) on s (federate_at p i).rules f.lookahead.0 f.rules
+    kept_by_rules (scene_of p i now value) (length p.groups) (length (federate_at p i).vars) on s (federate_at p i).rules (lookahead_is_positive p i h)
+    (λ k d below. rule_effective (length p.groups) (length (federate_at p i).vars) (p.end + 1) (federate_at p i).lookahead _ (f.rules k d below))

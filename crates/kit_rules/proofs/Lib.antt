@@ -1,4 +1,5 @@
 pub mod Names
+pub mod Lookaheads
 pub mod Growth
 pub mod Kept
 pub mod Backs
@@ -7,3 +8,4 @@ pub mod Fitness
 pub mod Opening
 pub mod Masks
 pub mod TakenBack
+pub mod Timely

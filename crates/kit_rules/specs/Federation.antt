@@ -1,5 +1,5 @@
 -- When the parts make a federation.
-use Rattle.std.specs.Prelude.{◌≡◌, ◌≢◌, ◌⊎◌, ℕ, ◌<◌, ◌≤◌, ◌^◌, List, length, IfSome, All, AllPairs}
+use Rattle.std.specs.Prelude.{◌≡◌, ◌≢◌, ◌⊎◌, ℕ, ◌<◌, ◌≤◌, ◌^◌, List, length, Option, IsSome, IfSome, IsSomeAnd, All, AllPairs}
 use Rattle.kit_rules.specs.declared.table.Wish.{Wish}
 use Rattle.kit_rules.specs.declared.table.Wish.TheVariants as wish
 use Rattle.kit_rules.specs.declared.table.Operand.{Operand}
@@ -51,18 +51,18 @@ IsTrigger groups (trigger.Got group) = group < groups
 abbrev pub IsCond : ℕ → Cond → Type 0
 IsCond vars c = IsOperand vars c.left × IsOperand vars c.right
 
--- an action of a federate with so many variables and this lookahead, where there are so many groups
-abbrev pub IsAction : ℕ → ℕ → ℕ → Action → Type 0
+-- an action of a federate with so many variables and this lookahead, where there are so many groups; without lookahead, which is that it is not regulating, it sends nothing and takes nothing back
+abbrev pub IsAction : ℕ → ℕ → Option ℕ → Action → Type 0
 IsAction groups vars lookahead (action.Set v to) = (v < vars) × IsOperand vars to
 IsAction groups vars lookahead (action.Add v by) = (v < vars) × IsOperand vars by
 IsAction groups vars lookahead (action.Sub v by) = (v < vars) × IsOperand vars by
-IsAction groups vars lookahead (action.Send group delay value keep) = (group < groups) × (lookahead ≤ delay) × (delay ≤ 100000) × IsOperand vars value × IfSome keep (λ v. v < vars)
-IsAction groups vars lookahead (action.Retract v) = v < vars
+IsAction groups vars lookahead (action.Send group delay value keep) = (group < groups) × IsSomeAnd lookahead (λ l. l ≤ delay) × (delay ≤ 100000) × IsOperand vars value × IfSome keep (λ v. v < vars)
+IsAction groups vars lookahead (action.Retract v) = IsSome lookahead × (v < vars)
 IsAction groups vars lookahead (action.Tar step) = IsStep step
 IsAction groups vars lookahead (action.Ner step) = IsStep step
 
 -- a rule of a federate with so many variables and this lookahead, where there are so many groups
-pub record IsRule (groups vars lookahead : ℕ) (r : Rule) : Type 0 where
+pub record IsRule (groups vars : ℕ) (lookahead : Option ℕ) (r : Rule) : Type 0 where
   pub on : IsTrigger groups r.on
   pub few_conds : length r.conds ≤ 8
   pub conds : All (IsCond vars) r.conds
@@ -78,7 +78,7 @@ pub record AreVars (vars : List Var) : Type 0 where
 -- a federate, where there are so many groups
 pub record IsFederate (groups : ℕ) (f : Federate) : Type 0 where
   pub name : IsName f.name
-  pub lookahead : IsStep f.lookahead
+  pub lookahead : IfSome f.lookahead IsStep
   pub advance : IsWish f.advance
   pub vars : AreVars f.vars
   pub few_rules : length f.rules ≤ 64
@@ -104,6 +104,6 @@ pub record AreFederates (groups : ℕ) (federates : List Federate) : Type 0 wher
 -- the parts of a federation
 pub record IsFederation (p : Parts) : Type 0 where
   pub end : IsStep p.end
-  pub buffers : (1 ≤ p.buffers) × (p.buffers ≤ 64)
+  pub buffers : (1 ≤ p.buffers) × (p.buffers ≤ 1024)
   pub groups : AreGroups (length p.federates) p.groups
   pub federates : AreFederates (length p.groups) p.federates

@@ -6,3 +6,4 @@ pub mod Simulation
 pub mod Need
 pub mod Fits
 pub mod Text
+pub mod Laws

@@ -20,7 +20,7 @@ use Rattle.kit_rules.specs.declared.table.Action.TheVariants as action
 use Rattle.kit_rules.specs.declared.table.Rule.{Rule}
 use Rattle.kit_rules.specs.declared.table.Var.{Var}
 use Rattle.kit_rules.specs.declared.table.Federate.{Federate}
-use Rattle.kit_rules.specs.Parts.{Parts, federate_at}
+use Rattle.kit_rules.specs.Parts.{Parts, federate_at, effective_lookahead}
 use Rattle.kit_rules.specs.declared.scene.Scene.{Scene}
 use Rattle.kit_rules.specs.declared.scene.State.{State}
 
@@ -132,11 +132,11 @@ AreMarked sends marks = (length sends ≤ length marks) × ((k number : ℕ) →
 -- what the rules of a federation keep of the limits
 pub record CanRun (lookahead : ℕ) (r : Rule) : Type 0 where
   pub conds : All (IsCond 8) r.conds
-  pub actions : All (IsAction 256 8 lookahead) r.actions
+  pub actions : All (IsAction 256 8 (Some lookahead)) r.actions
 
 -- where the rules of a federate run, at a time and with a value
 abbrev pub scene_of : Parts → ℕ → ℕ → ℕ → Scene
-scene_of p federate now value = record { end = p.end; sender = federate; lookahead = (federate_at p federate).lookahead; time = now; value = value }
+scene_of p federate now value = record { end = p.end; sender = federate; lookahead = effective_lookahead p federate; time = now; value = value }
 
 -- the rules of a trigger, at a time and with a value
 abbrev pub stepped : Parts → ℕ → Trigger → ℕ → ℕ → State → State

@@ -70,7 +70,7 @@ fn send(
     keep: Option<u8>,
 ) -> Result<(), ApplyEnd>
     requires time { scene.now.time ≤ 100000 }
-    requires fits { IsAction 256 8 scene.now.lookahead (Action.Send group delay value keep) }
+    requires fits { IsAction 256 8 (Some scene.now.lookahead) (Action.Send group delay value keep) }
     ensures ok { OnOk result (state.new ≡ after_action scene.now state.old (Action.Send group delay value keep)) }
     ensures err { OnErr result (state.new ≡ state.old) }
     ensures spent { result ≡ Err ApplyEnd.SendsSpent → 16384 < state.old.next }
@@ -95,7 +95,7 @@ fn send(
 /// Does an action.
 pub(crate) fn act(scene: &Scene, state: &mut FedState, action: Action) -> Result<(), ApplyEnd>
     requires time { scene.now.time ≤ 100000 }
-    requires fits { IsAction 256 8 scene.now.lookahead action }
+    requires fits { IsAction 256 8 (Some scene.now.lookahead) action }
     ensures ok { OnOk result (state.new ≡ after_action scene.now state.old action) }
     ensures err { OnErr result (state.new ≡ state.old) }
     ensures spent { result ≡ Err ApplyEnd.SendsSpent → 16385 < (after_action scene.now state.old action).next }

@@ -1,6 +1,6 @@
 ghost use Rattle.std.specs.Prelude.{◌≡◌, ◌<◌, ◌≤◌, length};
 ghost use Rattle.kit_rules.specs.Federation.{IsFederation};
-ghost use Rattle.kit_rules.specs.Parts.{federate_at, group_at};
+ghost use Rattle.kit_rules.specs.Parts.{federate_at, group_at, effective_lookahead};
 
 use crate::{Federate, Group};
 use kit_base::Items;
@@ -31,11 +31,13 @@ impl Model for Federation {
 impl Federation {
     /// The federation with these parts, which have to keep the limits.
     ///
-    /// - The end time is from 1 to 100,000, and each federate has from 1 to 64 buffers.
+    /// - The end time is from 1 to 100,000, and each federate has from 1 to 1,024 buffers.
     /// - There are 1 to 16 federates and 0 to 32 groups. A federate has 0 to 8 variables and 0 to 64
     ///   rules, and a rule 0 to 8 conditions and 0 to 16 actions.
     /// - A name has 1 to 16 ASCII letters, digits, `_` and `-`. The names of the federates differ from
     ///   each other, and so do those of the groups, and those of a federate's variables.
+    /// - A time-regulating federate has a lookahead. One that is not has none, and its rules have no Send
+    ///   and no Retract.
     /// - Lookahead and steps are from 1 to 100,000, and a delay from the sender's lookahead to 100,000.
     /// - The members of a group are federates, and rules name variables and groups that are there.
     pub fn new(
@@ -68,7 +70,7 @@ impl Federation {
     pub fn buffers(&self) -> u16
         ensures value { result ≡ self.now.buffers }
         ensures low { 1 ≤ result }
-        ensures high { result ≤ 64 }
+        ensures high { result ≤ 1024 }
     {
         self.buffers
     }
@@ -98,6 +100,21 @@ impl Federation {
         ensures sound { IsFederation self.now }
     {
         &self.federates.as_slice()[i as usize]
+    }
+
+    /// How far past its time a federate sends nothing: its lookahead, or more than the end time where
+    /// it is not regulating.
+    #[tactic(auto, unfolding(crate::specs::Parts::effective_lookahead))]
+    pub fn effective_lookahead(&self, i: u8) -> u32
+        requires { i < length self.now.federates }
+        ensures value { result ≡ effective_lookahead self.now i }
+        ensures low { 1 ≤ result }
+        ensures high { result ≤ 100001 }
+    {
+        match self.federate(i).lookahead {
+            Some(lookahead) => lookahead,
+            None => self.end as u32 + 1,
+        }
     }
 
     /// The group of a number.

@@ -1,4 +1,4 @@
-ghost use Rattle.std.specs.Prelude.{◌≡◌, ◌≢◌, ◌↔◌, ◌<◌, ◌≤◌, List, ℕ, IsTrue, IfSome, All, AllPairs, length};
+ghost use Rattle.std.specs.Prelude.{◌≡◌, ◌≢◌, ◌↔◌, ◌<◌, ◌≤◌, List, ℕ, IsTrue, IfSome, IsSomeAnd, All, AllPairs, length};
 ghost use Rattle.kit_rules.specs.Federation.{IsFederation, IsNameByte, IsName, IsStep, IsWish, IsOperand, IsTrigger, IsCond, IsAction, IsRule, IsFederate, IsGroup, AreVars, AreGroups, AreFederates};
 
 use crate::{Action, Cond, Federate, Group, Name, Operand, Rule, Trigger, Var, Wish};
@@ -64,7 +64,16 @@ fn is_kept(vars: usize, keep: Option<u8>) -> bool
     }
 }
 
-fn is_action(groups: usize, vars: usize, lookahead: u32, action: Action) -> bool
+fn is_delay(lookahead: Option<u32>, delay: u32) -> bool
+    ensures { IsTrue result ↔ IsSomeAnd lookahead (λ l. l ≤ delay) }
+{
+    match lookahead {
+        None => false,
+        Some(lookahead) => lookahead <= delay,
+    }
+}
+
+fn is_action(groups: usize, vars: usize, lookahead: Option<u32>, action: Action) -> bool
     ensures { IsTrue result ↔ IsAction groups vars lookahead action }
 {
     match action {
@@ -78,18 +87,18 @@ fn is_action(groups: usize, vars: usize, lookahead: u32, action: Action) -> bool
             keep,
         } => {
             (group as usize) < groups
-                && lookahead <= delay
+                && is_delay(lookahead, delay)
                 && delay <= 100_000
                 && is_operand(vars, value)
                 && is_kept(vars, keep)
         }
-        Action::Retract { var } => (var as usize) < vars,
+        Action::Retract { var } => lookahead.is_some() && (var as usize) < vars,
         Action::Tar { step } => is_step(step as u64),
         Action::Ner { step } => is_step(step as u64),
     }
 }
 
-fn is_rule(groups: usize, vars: usize, lookahead: u32, rule: &Rule) -> bool
+fn is_rule(groups: usize, vars: usize, lookahead: Option<u32>, rule: &Rule) -> bool
     ensures { IsTrue result ↔ IsRule groups vars lookahead rule.now }
 {
     is_trigger(groups, rule.on)
@@ -178,11 +187,20 @@ fn are_rules(groups: usize, federate: &Federate) -> bool
         .all(|r| is_rule(groups, vars, federate.lookahead, r))
 }
 
+fn is_lookahead(lookahead: Option<u32>) -> bool
+    ensures { IsTrue result ↔ IfSome lookahead IsStep }
+{
+    match lookahead {
+        None => true,
+        Some(lookahead) => is_step(lookahead as u64),
+    }
+}
+
 fn is_federate(groups: usize, federate: &Federate) -> bool
     ensures { IsTrue result ↔ IsFederate groups federate.now }
 {
     is_name(&federate.name)
-        && is_step(federate.lookahead as u64)
+        && is_lookahead(federate.lookahead)
         && is_wish(federate.advance)
         && are_vars(federate.vars.as_slice())
         && federate.rules.len() <= 64
@@ -221,11 +239,13 @@ fn are_federates(groups: usize, federates: &[Federate]) -> bool
 ///
 /// That is where each of these holds:
 ///
-/// - The end time is from 1 to 100,000, and each federate has from 1 to 64 buffers.
+/// - The end time is from 1 to 100,000, and each federate has from 1 to 1,024 buffers.
 /// - There are 1 to 16 federates and 0 to 32 groups. A federate has 0 to 8 variables and 0 to 64
 ///   rules, and a rule 0 to 8 conditions and 0 to 16 actions.
 /// - A name has 1 to 16 ASCII letters, digits, `_` and `-`. The names of the federates differ from
 ///   each other, and so do those of the groups, and those of a federate's variables.
+/// - A time-regulating federate has a lookahead. One that is not has none, and its rules have no Send
+///   and no Retract.
 /// - Lookahead and steps are from 1 to 100,000, and a delay from the sender's lookahead to 100,000.
 /// - The members of a group are federates, and rules name variables and groups that are there.
 ///
@@ -235,7 +255,7 @@ pub fn obeys(end: u64, buffers: u16, groups: &[Group], federates: &[Federate]) -
 {
     is_step(end)
         && 1 <= buffers
-        && buffers <= 64
+        && buffers <= 1024
         && are_federates(groups.len(), federates)
         && are_groups(federates.len(), groups)
 }

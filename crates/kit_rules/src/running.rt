@@ -9,7 +9,7 @@ use kit_base::Message;
 /// Does the actions of a rule, in order.
 fn act_all(scene: &Scene, state: &mut FedState, actions: &[Action]) -> Result<(), ApplyEnd>
     requires time { scene.now.time ≤ 100000 }
-    requires fits { All (IsAction 256 8 scene.now.lookahead) actions.now }
+    requires fits { All (IsAction 256 8 (Some scene.now.lookahead)) actions.now }
     requires room { state.old.next ≤ 16385 }
     ensures ok { OnOk result (state.new ≡ after_actions scene.now state.old actions.now) }
     ensures kept { take (length state.old.sends) state.new.sends ≡ state.old.sends }
@@ -103,7 +103,7 @@ pub fn apply(
     let scene = Scene {
         end: federation.end(),
         sender: federate,
-        lookahead: rules.lookahead,
+        lookahead: federation.effective_lookahead(federate),
         time: now,
         value,
     };

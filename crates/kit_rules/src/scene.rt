@@ -12,7 +12,8 @@ pub struct Scene {
     pub end: u64,
     /// The federate whose rule it is, by its number.
     pub sender: u8,
-    /// That federate's lookahead, in logical time.
+    /// How far past its time that federate sends nothing: its lookahead, or more than the end time
+    /// where it is not regulating.
     pub lookahead: u32,
     /// That federate's logical time.
     pub time: u64,

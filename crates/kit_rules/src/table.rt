@@ -168,7 +168,8 @@ pub struct Federate {
     /// Its name, which no other federate has.
     pub name: Name,
     /// HLA 1.3's lookahead, in logical time, from 1 to 100,000: no send is timed sooner after now.
-    pub lookahead: u32,
+    /// A federate without one is not time-regulating: it sends nothing and takes nothing back.
+    pub lookahead: Option<u32>,
     /// Its wish before anything ran.
     pub advance: Wish,
     /// Its variables, of which there are at most 8.

@@ -42,7 +42,7 @@ fn variables(alloc: Global) -> Result<Items<Var>, AllocError> {
 fn federate(alloc: Global, name: &str, rules: Items<Rule>) -> Result<Federate, AllocError> {
     Ok(Federate {
         name: Name::of(alloc, name.as_bytes())?,
-        lookahead: 3,
+        lookahead: Some(3),
         advance: Wish::Tar(5),
         vars: variables(alloc)?,
         rules,
@@ -130,6 +130,71 @@ fn a_message_needs_a_receiver_in_time(rt: HostRuntime) -> Result<(), Fail> {
             "{message:?}"
         );
         assert_eq!(rt; transported(&federation, &message), is_sent, "{message:?}");
+    }
+    Ok(())
+}
+
+/// Whether a federate with this lookahead may have this action, in a federation with so many buffers.
+fn is_allowed(
+    alloc: Global,
+    lookahead: Option<u32>,
+    action: Action,
+    buffers: u16,
+) -> Result<bool, AllocError> {
+    let mut rules = Items::new(alloc);
+    rules.push(rule(alloc, Trigger::Start, &[], &[action])?)?;
+    let mut groups = Items::new(alloc);
+    groups.push(Group {
+        name: Name::of(alloc, b"g")?,
+        members: 1,
+    })?;
+    let mut one = federate(alloc, "a", rules)?;
+    one.lookahead = lookahead;
+    let mut federates = Items::new(alloc);
+    federates.push(one)?;
+    Ok(obeys(20, buffers, groups.as_slice(), federates.as_slice()))
+}
+
+#[test]
+fn only_a_regulating_federate_sends(rt: HostRuntime) -> Result<(), Fail> {
+    let retract = Action::Retract { var: 0 };
+    let tar = Action::Tar { step: 1 };
+    for (lookahead, action, buffers, wanted) in [
+        (Some(3), send(0, 3), 1, true),
+        (Some(3), send(0, 2), 1, false),
+        (Some(3), retract, 1, true),
+        (Some(3), tar, 1, true),
+        (None, send(0, 3), 1, false),
+        (None, send(0, 100_000), 1, false),
+        (None, retract, 1, false),
+        (None, tar, 1, true),
+        (Some(0), tar, 1, false),
+        (Some(100_000), tar, 1, true),
+        (Some(100_001), tar, 1, false),
+        (None, tar, 0, false),
+        (None, tar, 1_024, true),
+        (None, tar, 1_025, false),
+    ] {
+        assert_eq!(rt;
+            is_allowed(rt.alloc(), lookahead, action, buffers)?,
+            wanted,
+            "{lookahead:?} {action:?} {buffers}"
+        );
+    }
+    Ok(())
+}
+
+#[test]
+fn an_effective_lookahead_reaches_past_the_end(rt: HostRuntime) -> Result<(), Fail> {
+    for (lookahead, wanted) in [(Some(3), 3), (Some(100_000), 100_000), (None, 21)] {
+        let mut one = federate(rt.alloc(), "a", Items::new(rt.alloc()))?;
+        one.lookahead = lookahead;
+        let mut federates = Items::new(rt.alloc());
+        federates.push(one)?;
+        assert!(rt; obeys(20, 4, &[], federates.as_slice()));
+        let federation = Federation::new(20, 4, Items::new(rt.alloc()), federates);
+        assert!(rt; federation.count() == 1);
+        assert_eq!(rt; federation.effective_lookahead(0), wanted, "{lookahead:?}");
     }
     Ok(())
 }

@@ -1,0 +1,20 @@
+//! What lookahead means for what is sent: each law is the contract of a function that does nothing.
+
+ghost use Rattle.kit_rules.specs.Laws.{LookaheadsArePositive, SendsKeepLookahead, OnlyRegulatingSend};
+
+/// The effective lookahead of each federate is at least 1: its lookahead, or one more than the end
+/// time where it is not regulating.
+pub fn lookaheads_are_positive()
+    ensures { LookaheadsArePositive }
+{}
+
+/// What a federate sends, Retractions among it, is timed no sooner than its time and its effective
+/// lookahead.
+pub fn sends_keep_lookahead()
+    ensures { SendsKeepLookahead }
+{}
+
+/// A federate that is not regulating sends nothing, and so takes nothing back.
+pub fn only_regulating_send()
+    ensures { OnlyRegulatingSend }
+{}
