@@ -13,18 +13,20 @@ use Rattle.kit_file.specs.Reading.{◌>>=◌, refused, within, guard, each}
 use Rattle.kit_file.specs.Places.{object, has, number, list}
 use Rattle.kit_file.specs.Names.{var_name, group_name, reference}
 use Rattle.kit_file.specs.Operands.{operand_of}
+use Rattle.kit_file.specs.Lookaheads.{needed_lookahead}
 
 -- the variable that keeps the number of a message, where one does
 abbrev pub keep_of : List Var → Data → Option Data → Result (Option ℕ) Fault
 keep_of vars d None = Ok None
 keep_of vars d (Some v) = reference var_name vars (codes "keep") d >>= λ k. Ok (Some k)
 
--- a message to a group, sent no sooner than the lookahead allows
-unfoldable pub send_of : List Group → List Var → ℕ → Data → Result Action Fault
+-- a message to a group, sent no sooner than the lookahead allows, of which there has to be one
+unfoldable pub send_of : List Group → List Var → Option ℕ → Data → Result Action Fault
 send_of groups vars lookahead d = do
+  least ← needed_lookahead (codes "send") lookahead
   g ← reference group_name groups (codes "send") d
   delay ← number (codes "delay") 0 100000 d
-  u ← guard (nat_le lookahead delay) kind.SendTooSoon (key_path (codes "delay"))
+  u ← guard (nat_le least delay) kind.SendTooSoon (key_path (codes "delay"))
   value ← operand_of (codes "value") vars d
   keep ← keep_of vars d (get (codes "keep") d)
   Ok (action.Send g delay value keep)
@@ -50,9 +52,10 @@ sub_of vars d = do
   by ← operand_of (codes "by") vars d
   Ok (action.Sub v by)
 
--- the message taken back whose number a variable holds
-unfoldable pub retract_of : List Var → Data → Result Action Fault
-retract_of vars d = do
+-- the message taken back whose number a variable holds, where the federate may send
+unfoldable pub retract_of : List Var → Option ℕ → Data → Result Action Fault
+retract_of vars lookahead d = do
+  least ← needed_lookahead (codes "retract") lookahead
   v ← reference var_name vars (codes "retract") d
   Ok (action.Retract v)
 
@@ -69,21 +72,21 @@ ner_of d = do
   Ok (action.Ner n)
 
 -- an action of the last three kinds, or of none
-unfoldable pub last_kinds_of : List Var → Data → Result Action Fault
-last_kinds_of vars d = if has (codes "retract") d then retract_of vars d else (if has (codes "tar") d then tar_of d else (if has (codes "ner") d then ner_of d else refused kind.Missing []))
+unfoldable pub last_kinds_of : List Var → Option ℕ → Data → Result Action Fault
+last_kinds_of vars lookahead d = if has (codes "retract") d then retract_of vars lookahead d else (if has (codes "tar") d then tar_of d else (if has (codes "ner") d then ner_of d else refused kind.Missing []))
 
 -- an action: its kind is the first of the seven keys that it has
-unfoldable pub action_of : List Group → List Var → ℕ → Data → Result Action Fault
+unfoldable pub action_of : List Group → List Var → Option ℕ → Data → Result Action Fault
 action_of groups vars lookahead d = do
   u ← object d
-  if has (codes "set") d then set_of vars d else (if has (codes "add") d then add_of vars d else (if has (codes "sub") d then sub_of vars d else (if has (codes "send") d then send_of groups vars lookahead d else last_kinds_of vars d)))
+  if has (codes "set") d then set_of vars d else (if has (codes "add") d then add_of vars d else (if has (codes "sub") d then sub_of vars d else (if has (codes "send") d then send_of groups vars lookahead d else last_kinds_of vars lookahead d)))
 
 -- one more action, the i-th of the list do
-unfoldable pub action_step : List Group → List Var → ℕ → ℕ → List Action → Data → Result (List Action) Fault
+unfoldable pub action_step : List Group → List Var → Option ℕ → ℕ → List Action → Data → Result (List Action) Fault
 action_step groups vars lookahead i done d = within (item_path (codes "do") i) (action_of groups vars lookahead d) >>= λ a. Ok (done ++ a ∷ [])
 
 -- the list do
-unfoldable pub actions_of : List Group → List Var → ℕ → Data → Result (List Action) Fault
+unfoldable pub actions_of : List Group → List Var → Option ℕ → Data → Result (List Action) Fault
 actions_of groups vars lookahead d = do
   ds ← list (codes "do") 0 16 d
   each (action_step groups vars lookahead) 0 [] ds

@@ -24,6 +24,7 @@ file_fault kind.OutOfRange path = file.OutOfRange path
 file_fault kind.UnknownName path = file.UnknownName path
 file_fault kind.Repeated path = file.Repeated path
 file_fault kind.SendTooSoon path = file.SendTooSoon path
+file_fault kind.NotRegulating path = file.NotRegulating path
 
 -- the bytes are a JSON text of this value
 abbrev pub Says : List ℕ → Data → Type 0
@@ -51,3 +52,4 @@ IsFaultAtPath bytes (file.OutOfRange path) = IsFirstFault bytes (file.OutOfRange
 IsFaultAtPath bytes (file.UnknownName path) = IsFirstFault bytes (file.UnknownName path)
 IsFaultAtPath bytes (file.Repeated path) = IsFirstFault bytes (file.Repeated path)
 IsFaultAtPath bytes (file.SendTooSoon path) = IsFirstFault bytes (file.SendTooSoon path)
+IsFaultAtPath bytes (file.NotRegulating path) = IsFirstFault bytes (file.NotRegulating path)

@@ -12,6 +12,7 @@ use Rattle.kit_file.specs.Reading.{◌>>=◌, refused, within, each}
 use Rattle.kit_file.specs.Places.{object, has, member, number}
 use Rattle.kit_file.specs.Variables.{vars_of}
 use Rattle.kit_file.specs.Rules.{rules_of}
+use Rattle.kit_file.specs.Lookaheads.{lookahead_of}
 
 -- the request of an object that has tar, or else ner
 abbrev pub request_of : Bool → Bool → Data → Result Wish Fault
@@ -31,19 +32,19 @@ advance_of d = do
   a ← member (codes "advance") d
   within (key_path (codes "advance")) (wish_of a)
 
--- a federate of this name: lookahead, advance, vars, rules
-unfoldable pub federate_of : List Group → List ℕ → Data → Result Federate Fault
-federate_of groups name d = do
-  lookahead ← number (codes "lookahead") 1 100000 d
+-- a federate of this name, in a file of this version: lookahead, advance, vars, rules
+unfoldable pub federate_of : ℕ → List Group → List ℕ → Data → Result Federate Fault
+federate_of version groups name d = do
+  lookahead ← lookahead_of version d
   advance ← advance_of d
   vars ← vars_of d
   rules ← rules_of groups vars lookahead d
   Ok (record { name = name; lookahead = lookahead; advance = advance; vars = vars; rules = rules })
 
 -- one more federate, the i-th of the list, with the i-th name
-unfoldable pub federate_step : List (List ℕ) → List Group → ℕ → List Federate → Data → Result (List Federate) Fault
-federate_step names groups i done d = within (item_path (codes "federates") i) (federate_of groups (slice_index_or names i []) d) >>= λ f. Ok (done ++ f ∷ [])
+unfoldable pub federate_step : ℕ → List (List ℕ) → List Group → ℕ → List Federate → Data → Result (List Federate) Fault
+federate_step version names groups i done d = within (item_path (codes "federates") i) (federate_of version groups (slice_index_or names i []) d) >>= λ f. Ok (done ++ f ∷ [])
 
 -- all federates in full
-unfoldable pub federates_of : List (List ℕ) → List Group → List Data → Result (List Federate) Fault
-federates_of names groups ds = each (federate_step names groups) 0 [] ds
+unfoldable pub federates_of : ℕ → List (List ℕ) → List Group → List Data → Result (List Federate) Fault
+federates_of version names groups ds = each (federate_step version names groups) 0 [] ds

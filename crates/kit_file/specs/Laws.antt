@@ -1,8 +1,9 @@
 -- What an accepted file means.
-use Rattle.std.specs.Prelude.{◌≡◌, ℕ, List, length, Option, Some, Ok, option_and_then, codes}
-use Rattle.std.specs.Option.{option_map}
-use Rattle.serde_json.specs.Data.{Data, Items}
-use Rattle.serde_json.specs.Find.{get, as_number, as_u64, as_array}
+use Rattle.std.specs.Prelude.{◌≡◌, ℕ, ◌≤◌, ◌==◌, List, [], map, Bool, true, ◌||◌, if◌then◌else◌, Option, Some, None, Ok, option_and_then, unwrap_or, codes}
+use Rattle.std.specs.Option.{option_map_or}
+use Rattle.serde_json.specs.Data.{Data}
+use Rattle.serde_json.specs.Find.{get, as_bool, as_number, as_u64, as_array}
+use Rattle.kit_rules.specs.declared.table.Federate.{Federate}
 use Rattle.kit_rules.specs.Parts.{Parts}
 use Rattle.kit_file.specs.Places.{data_of}
 use Rattle.kit_file.specs.Walk.{walk}
@@ -11,16 +12,26 @@ use Rattle.kit_file.specs.Walk.{walk}
 abbrev pub number_under : List ℕ → Data → Option ℕ
 number_under key d = option_and_then as_u64 (option_and_then as_number (get key d))
 
--- how many members the list under a key has
-abbrev pub count_under : List ℕ → Data → Option ℕ
-count_under key d = option_map (λ (items : Items). length (data_of items)) (option_and_then as_array (get key d))
+-- the members of the list under a key
+abbrev pub members_under : List ℕ → Data → List Data
+members_under key d = option_map_or data_of (option_and_then as_array (get key d)) []
 
--- the federation is what the keys say: its end, the size of its pools, and how many federates it has
+-- whether a federate is time-regulating: in version 1 each is, and then each whose key does not say that it is not
+abbrev pub says_regulating : ℕ → Data → Bool
+says_regulating version d = version == 1 || unwrap_or (option_and_then as_bool (get (codes "regulating") d)) true
+
+-- the lookahead that a federate's keys say
+abbrev pub lookahead_said : ℕ → Data → Option ℕ
+lookahead_said version d = if says_regulating version d then number_under (codes "lookahead") d else None
+
+-- the federation is what the keys say: its end, the size of its pools, and for each member of the list of federates one, with its lookahead
 pub record KeysSay (d : Data) (p : Parts) : Type 0 where
-  pub version : number_under (codes "version") d ≡ Some 1
+  pub version : ℕ
+  pub known : (1 ≤ version) × (version ≤ 2)
+  pub said : number_under (codes "version") d ≡ Some version
   pub end : number_under (codes "end") d ≡ Some p.end
   pub buffers : number_under (codes "buffers") d ≡ Some p.buffers
-  pub federates : count_under (codes "federates") d ≡ Some (length p.federates)
+  pub lookaheads : map (λ (f : Federate). f.lookahead) p.federates ≡ map (lookahead_said version) (members_under (codes "federates") d)
 
 -- a file that is accepted means what its keys say
 abbrev pub KeysMean : Type 0

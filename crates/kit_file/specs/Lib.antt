@@ -6,6 +6,7 @@ pub mod Names
 pub mod SoFar
 pub mod Variables
 pub mod Operands
+pub mod Lookaheads
 pub mod Actions
 pub mod Rules
 pub mod FederateNames

@@ -67,7 +67,7 @@ trigger_of groups d = do
   trigger_from groups v (as_str v)
 
 -- a rule: on, if, do
-unfoldable pub rule_of : List Group → List Var → ℕ → Data → Result Rule Fault
+unfoldable pub rule_of : List Group → List Var → Option ℕ → Data → Result Rule Fault
 rule_of groups vars lookahead d = do
   u ← object d
   on ← trigger_of groups d
@@ -76,11 +76,11 @@ rule_of groups vars lookahead d = do
   Ok (record { on = on; conds = conds; actions = actions })
 
 -- one more rule, the i-th of the list rules
-unfoldable pub rule_step : List Group → List Var → ℕ → ℕ → List Rule → Data → Result (List Rule) Fault
+unfoldable pub rule_step : List Group → List Var → Option ℕ → ℕ → List Rule → Data → Result (List Rule) Fault
 rule_step groups vars lookahead i done d = within (item_path (codes "rules") i) (rule_of groups vars lookahead d) >>= λ r. Ok (done ++ r ∷ [])
 
 -- the list rules, which may be absent
-unfoldable pub rules_of : List Group → List Var → ℕ → Data → Result (List Rule) Fault
+unfoldable pub rules_of : List Group → List Var → Option ℕ → Data → Result (List Rule) Fault
 rules_of groups vars lookahead d = do
   ds ← optional_list (codes "rules") 64 (get (codes "rules") d)
   each (rule_step groups vars lookahead) 0 [] ds

@@ -13,11 +13,11 @@ use Rattle.kit_file.specs.Federates.{federates_of}
 unfoldable pub walk : Data → Result Parts Fault
 walk d = do
   u ← object d
-  version ← number (codes "version") 1 1 d
+  version ← number (codes "version") 1 2 d
   end ← number (codes "end") 1 100000 d
-  buffers ← number (codes "buffers") 1 64 d
+  buffers ← number (codes "buffers") 1 1024 d
   ds ← list (codes "federates") 1 16 d
   names ← federate_names_of ds
   groups ← groups_of names d
-  federates ← federates_of names groups ds
+  federates ← federates_of version names groups ds
   Ok (record { end = end; buffers = buffers; groups = groups; federates = federates })

@@ -1,6 +1,6 @@
 //! The places of an action.
 
-ghost use Rattle.std.specs.Prelude.{◌≡◌, ◌+◌, ◌<◌, ◌≤◌, ℕ, [], ◌∷◌, codes, length, map, IfOk, OnOk, All};
+ghost use Rattle.std.specs.Prelude.{◌≡◌, ◌+◌, ◌<◌, ◌≤◌, ℕ, [], ◌∷◌, Option, codes, length, map, IfOk, OnOk, All};
 ghost use Rattle.serde_json.specs.View.{view};
 ghost use Rattle.serde_json.specs.Find.{get};
 ghost use Rattle.kit_rules.specs.Federation.{IsAction};
@@ -8,6 +8,7 @@ ghost use Rattle.kit_file.specs.Agreement.{Gives};
 ghost use Rattle.kit_file.specs.Actions.{set_of, add_of, sub_of, retract_of, tar_of, ner_of, last_kinds_of, action_of, action_step, actions_of};
 
 use crate::fault::{Fault, FaultKind, WalkEnd};
+use crate::lookaheads::needed_at;
 use crate::names::reference_at;
 use crate::operands::operand_at;
 use crate::places::{list_at, number_at, object_here};
@@ -21,7 +22,7 @@ use std::alloc::Global;
 fn set_in(alloc: Global, vars: &[Var], value: &Value) -> Result<Action, WalkEnd>
     requires { length vars.now ≤ 8 }
     ensures exact { Gives (λ a. a) result (set_of vars.now (view value.now)) }
-    ensures sound { (groups lookahead : ℕ) → IfOk result (λ a. IsAction groups (length vars.now) lookahead a) }
+    ensures sound { (groups : ℕ) (lookahead : Option ℕ) → IfOk result (λ a. IsAction groups (length vars.now) lookahead a) }
 {
     let var = reference_at(alloc, value, "set", vars)?;
     let to = operand_at(alloc, value, "to", vars)?;
@@ -32,7 +33,7 @@ fn set_in(alloc: Global, vars: &[Var], value: &Value) -> Result<Action, WalkEnd>
 fn add_in(alloc: Global, vars: &[Var], value: &Value) -> Result<Action, WalkEnd>
     requires { length vars.now ≤ 8 }
     ensures exact { Gives (λ a. a) result (add_of vars.now (view value.now)) }
-    ensures sound { (groups lookahead : ℕ) → IfOk result (λ a. IsAction groups (length vars.now) lookahead a) }
+    ensures sound { (groups : ℕ) (lookahead : Option ℕ) → IfOk result (λ a. IsAction groups (length vars.now) lookahead a) }
 {
     let var = reference_at(alloc, value, "add", vars)?;
     let by = operand_at(alloc, value, "by", vars)?;
@@ -43,7 +44,7 @@ fn add_in(alloc: Global, vars: &[Var], value: &Value) -> Result<Action, WalkEnd>
 fn sub_in(alloc: Global, vars: &[Var], value: &Value) -> Result<Action, WalkEnd>
     requires { length vars.now ≤ 8 }
     ensures exact { Gives (λ a. a) result (sub_of vars.now (view value.now)) }
-    ensures sound { (groups lookahead : ℕ) → IfOk result (λ a. IsAction groups (length vars.now) lookahead a) }
+    ensures sound { (groups : ℕ) (lookahead : Option ℕ) → IfOk result (λ a. IsAction groups (length vars.now) lookahead a) }
 {
     let var = reference_at(alloc, value, "sub", vars)?;
     let by = operand_at(alloc, value, "by", vars)?;
@@ -51,11 +52,17 @@ fn sub_in(alloc: Global, vars: &[Var], value: &Value) -> Result<Action, WalkEnd>
 }
 
 #[tactic(auto, unfolding(crate::specs::Actions::retract_of))]
-fn retract_in(alloc: Global, vars: &[Var], value: &Value) -> Result<Action, WalkEnd>
+fn retract_in(
+    alloc: Global,
+    vars: &[Var],
+    lookahead: Option<u32>,
+    value: &Value,
+) -> Result<Action, WalkEnd>
     requires { length vars.now ≤ 8 }
-    ensures exact { Gives (λ a. a) result (retract_of vars.now (view value.now)) }
-    ensures sound { (groups lookahead : ℕ) → IfOk result (λ a. IsAction groups (length vars.now) lookahead a) }
+    ensures exact { Gives (λ a. a) result (retract_of vars.now lookahead (view value.now)) }
+    ensures sound { (groups : ℕ) → IfOk result (λ a. IsAction groups (length vars.now) lookahead a) }
 {
+    needed_at(alloc, lookahead, "retract")?;
     let var = reference_at(alloc, value, "retract", vars)?;
     Ok(Action::Retract { var })
 }
@@ -63,7 +70,7 @@ fn retract_in(alloc: Global, vars: &[Var], value: &Value) -> Result<Action, Walk
 #[tactic(auto, unfolding(crate::specs::Actions::tar_of))]
 fn tar_in(alloc: Global, value: &Value) -> Result<Action, WalkEnd>
     ensures exact { Gives (λ a. a) result (tar_of (view value.now)) }
-    ensures sound { (groups vars lookahead : ℕ) → IfOk result (λ a. IsAction groups vars lookahead a) }
+    ensures sound { (groups vars : ℕ) (lookahead : Option ℕ) → IfOk result (λ a. IsAction groups vars lookahead a) }
 {
     let step = number_at(alloc, value, "tar", 1, 100_000)?;
     Ok(Action::Tar { step: step as u32 })
@@ -72,20 +79,25 @@ fn tar_in(alloc: Global, value: &Value) -> Result<Action, WalkEnd>
 #[tactic(auto, unfolding(crate::specs::Actions::ner_of))]
 fn ner_in(alloc: Global, value: &Value) -> Result<Action, WalkEnd>
     ensures exact { Gives (λ a. a) result (ner_of (view value.now)) }
-    ensures sound { (groups vars lookahead : ℕ) → IfOk result (λ a. IsAction groups vars lookahead a) }
+    ensures sound { (groups vars : ℕ) (lookahead : Option ℕ) → IfOk result (λ a. IsAction groups vars lookahead a) }
 {
     let step = number_at(alloc, value, "ner", 1, 100_000)?;
     Ok(Action::Ner { step: step as u32 })
 }
 
 #[tactic(auto, unfolding(crate::specs::Actions::last_kinds_of))]
-fn last_kinds_in(alloc: Global, vars: &[Var], value: &Value) -> Result<Action, WalkEnd>
+fn last_kinds_in(
+    alloc: Global,
+    vars: &[Var],
+    lookahead: Option<u32>,
+    value: &Value,
+) -> Result<Action, WalkEnd>
     requires { length vars.now ≤ 8 }
-    ensures exact { Gives (λ a. a) result (last_kinds_of vars.now (view value.now)) }
-    ensures sound { (groups lookahead : ℕ) → IfOk result (λ a. IsAction groups (length vars.now) lookahead a) }
+    ensures exact { Gives (λ a. a) result (last_kinds_of vars.now lookahead (view value.now)) }
+    ensures sound { (groups : ℕ) → IfOk result (λ a. IsAction groups (length vars.now) lookahead a) }
 {
     if value.get("retract").is_some() {
-        return retract_in(alloc, vars, value);
+        return retract_in(alloc, vars, lookahead, value);
     }
     if value.get("tar").is_some() {
         return tar_in(alloc, value);
@@ -101,7 +113,7 @@ fn action_in(
     alloc: Global,
     groups: &[Group],
     vars: &[Var],
-    lookahead: u32,
+    lookahead: Option<u32>,
     value: &Value,
 ) -> Result<Action, WalkEnd>
     requires groups { length groups.now ≤ 32 }
@@ -122,7 +134,7 @@ fn action_in(
     if value.get("send").is_some() {
         return send_in(alloc, groups, vars, lookahead, value);
     }
-    last_kinds_in(alloc, vars, value)
+    last_kinds_in(alloc, vars, lookahead, value)
 }
 
 #[tactic(auto, using(crate::proofs::Pushes::all_and_one), unfolding(crate::specs::Actions::action_step))]
@@ -130,7 +142,7 @@ fn push_action(
     alloc: Global,
     groups: &[Group],
     vars: &[Var],
-    lookahead: u32,
+    lookahead: Option<u32>,
     i: usize,
     done: &mut Items<Action>,
     value: &Value,
@@ -157,7 +169,7 @@ pub(crate) fn actions_in(
     alloc: Global,
     groups: &[Group],
     vars: &[Var],
-    lookahead: u32,
+    lookahead: Option<u32>,
     value: &Value,
 ) -> Result<Items<Action>, WalkEnd>
     requires groups { length groups.now ≤ 32 }

@@ -50,6 +50,8 @@ pub enum FileFault {
     Repeated { path: FaultPath },
     /// The delay of a send is below the federate's lookahead.
     SendTooSoon { path: FaultPath },
+    /// A federate that is not time-regulating has an action that sends or takes back.
+    NotRegulating { path: FaultPath },
     /// Memory ran out.
     NoMemory,
 }
@@ -63,6 +65,7 @@ pub(crate) enum FaultKind {
     UnknownName,
     Repeated,
     SendTooSoon,
+    NotRegulating,
 }
 
 /// A fault of the walk. Its path starts at the value that was walked, each key with a point
@@ -169,6 +172,7 @@ impl Fault {
             FaultKind::UnknownName => FileFault::UnknownName { path },
             FaultKind::Repeated => FileFault::Repeated { path },
             FaultKind::SendTooSoon => FileFault::SendTooSoon { path },
+            FaultKind::NotRegulating => FileFault::NotRegulating { path },
         })
     }
 }

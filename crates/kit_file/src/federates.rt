@@ -11,6 +11,7 @@ ghost use Rattle.kit_file.specs.Paths.{item_path};
 ghost use Rattle.kit_rules.specs.Federation.{IsName, IsWish, IsFederate, AreFederates};
 
 use crate::fault::{Fault, FaultKind, WalkEnd};
+use crate::lookaheads::lookahead_at;
 use crate::places::{member_at, number_at, object_here};
 use crate::rules::rules_in;
 use crate::variables::vars_in;
@@ -52,23 +53,24 @@ fn advance_in(alloc: Global, value: &Value) -> Result<Wish, WalkEnd>
 #[tactic(auto, unfolding(crate::specs::Federates::federate_of))]
 fn federate_in(
     alloc: Global,
+    version: u64,
     groups: &[Group],
     name: &Name,
     value: &Value,
 ) -> Result<Federate, WalkEnd>
     requires form { IsName name.now }
     requires few { length groups.now ≤ 32 }
-    ensures exact { Gives (λ f. f) result (federate_of groups.now name.now (view value.now)) }
+    ensures exact { Gives (λ f. f) result (federate_of version groups.now name.now (view value.now)) }
     ensures sound { IfOk result (λ f. IsFederate (length groups.now) f) }
     ensures called { IfOk result (λ f. f.name ≡ name.now) }
 {
-    let lookahead = number_at(alloc, value, "lookahead", 1, 100_000)?;
+    let lookahead = lookahead_at(alloc, version, value)?;
     let advance = advance_in(alloc, value)?;
     let vars = vars_in(alloc, value)?;
-    let rules = rules_in(alloc, groups, vars.as_slice(), lookahead as u32, value)?;
+    let rules = rules_in(alloc, groups, vars.as_slice(), lookahead, value)?;
     Ok(Federate {
         name: Name::of(alloc, name.bytes())?,
-        lookahead: lookahead as u32,
+        lookahead,
         advance,
         vars,
         rules,
@@ -78,6 +80,7 @@ fn federate_in(
 #[tactic(auto, using(crate::proofs::Pushes::one_more_federate), unfolding(crate::specs::Federates::federate_step))]
 fn push_federate(
     alloc: Global,
+    version: u64,
     names: &[Name],
     groups: &[Group],
     i: usize,
@@ -91,9 +94,9 @@ fn push_federate(
     requires kept { AreFederatesSoFar (length groups.now) names.now done.old }
     ensures kept { OnOk result (AreFederatesSoFar (length groups.now) names.now done.new) }
     ensures count { OnOk result (length done.new ≡ length done.old + 1) }
-    ensures exact { Gives (λ _. done.new) result (federate_step names.now groups.now i done.old (view value.now)) }
+    ensures exact { Gives (λ _. done.new) result (federate_step version names.now groups.now i done.old (view value.now)) }
 {
-    match federate_in(alloc, groups, &names[i], value) {
+    match federate_in(alloc, version, groups, &names[i], value) {
         Ok(federate) => {
             done.push(federate)?;
             Ok(())
@@ -106,6 +109,7 @@ fn push_federate(
 #[tactic(auto, using(crate::proofs::Pushes::no_federates, crate::proofs::Pushes::federates_are), unfolding(crate::specs::Federates::federates_of))]
 pub(crate) fn federates_in(
     alloc: Global,
+    version: u64,
     names: &[Name],
     groups: &[Group],
     items: &[Value],
@@ -117,11 +121,11 @@ pub(crate) fn federates_in(
     requires given { AreNames itself names.now }
     ensures sound { IfOk result (λ v. AreFederates (length groups.now) v) }
     ensures count { IfOk result (λ v. length v ≡ length names.now) }
-    ensures exact { Gives (λ v. v) result (federates_of names.now groups.now (map view items.now)) }
+    ensures exact { Gives (λ v. v) result (federates_of version names.now groups.now (map view items.now)) }
 {
     let mut done = Items::new(alloc);
     for (i, item) in items.iter().enumerate() {
-        push_federate(alloc, names, groups, i, &mut done, item)?;
+        push_federate(alloc, version, names, groups, i, &mut done, item)?;
     }
     Ok(done)
 }

@@ -7,6 +7,7 @@ mod federate_names;
 mod federates;
 mod groups;
 mod laws;
+mod lookaheads;
 mod names;
 mod operands;
 mod places;

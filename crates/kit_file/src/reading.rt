@@ -22,13 +22,13 @@ pub(crate) fn federation_in(alloc: Global, value: &Value) -> Result<Federation, 
     ensures sound { IfOk result (λ p. IsFederation p) }
 {
     object_here(alloc, value)?;
-    let _version = number_at(alloc, value, "version", 1, 1)?;
+    let version = number_at(alloc, value, "version", 1, 2)?;
     let end = number_at(alloc, value, "end", 1, 100_000)?;
-    let buffers = number_at(alloc, value, "buffers", 1, 64)?;
+    let buffers = number_at(alloc, value, "buffers", 1, 1024)?;
     let items = list_at(alloc, value, "federates", 1, 16)?;
     let names = federate_names_in(alloc, items)?;
     let groups = groups_in(alloc, names.as_slice(), value)?;
-    let federates = federates_in(alloc, names.as_slice(), groups.as_slice(), items)?;
+    let federates = federates_in(alloc, version, names.as_slice(), groups.as_slice(), items)?;
     Ok(Federation::new(end, buffers as u16, groups, federates))
 }
 
@@ -36,8 +36,8 @@ pub(crate) fn federation_in(alloc: Global, value: &Value) -> Result<Federation, 
 ///
 /// Its places are tested in a fixed order, and the first fault is the answer: the root, `version`,
 /// `end`, `buffers`, the list `federates`, all their names, `groups`, and then each federate's
-/// `lookahead`, `advance`, `vars` and `rules`. Keys that no place has are ignored. Of a key that
-/// is written twice in one object, the last value counts.
+/// `regulating` (in version 2), `lookahead`, `advance`, `vars` and `rules`. Keys that no place has
+/// are ignored. Of a key that is written twice in one object, the last value counts.
 pub fn read_federation(alloc: Global, bytes: &[u8]) -> Result<Federation, FileFault>
     ensures accepted { IfOk result (λ p. IsAccepted bytes.now p) }
     ensures sound { IfOk result (λ p. IsFederation p) }

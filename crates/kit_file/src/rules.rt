@@ -145,7 +145,7 @@ fn rule_in(
     alloc: Global,
     groups: &[Group],
     vars: &[Var],
-    lookahead: u32,
+    lookahead: Option<u32>,
     value: &Value,
 ) -> Result<Rule, WalkEnd>
     requires groups { length groups.now ≤ 32 }
@@ -165,7 +165,7 @@ fn push_rule(
     alloc: Global,
     groups: &[Group],
     vars: &[Var],
-    lookahead: u32,
+    lookahead: Option<u32>,
     i: usize,
     done: &mut Items<Rule>,
     value: &Value,
@@ -192,7 +192,7 @@ pub(crate) fn rules_in(
     alloc: Global,
     groups: &[Group],
     vars: &[Var],
-    lookahead: u32,
+    lookahead: Option<u32>,
     value: &Value,
 ) -> Result<Items<Rule>, WalkEnd>
     requires groups { length groups.now ≤ 32 }

@@ -12,6 +12,7 @@ ghost use Rattle.serde_json.specs.Find.{get};
 ghost use Rattle.kit_rules.specs.Federation.{IsAction};
 
 use crate::fault::{Fault, FaultKind, WalkEnd};
+use crate::lookaheads::needed_at;
 use crate::names::reference_at;
 use crate::operands::operand_at;
 use crate::places::number_at;
@@ -30,11 +31,11 @@ fn keep_at(alloc: Global, value: &Value, vars: &[Var]) -> Result<Option<u8>, Wal
     }
 }
 
-fn in_time_at(alloc: Global, lookahead: u32, delay: u64) -> Result<(), WalkEnd>
-    ensures exact { Gives (λ _. tt) result (guard (nat_le lookahead delay) FaultKind.SendTooSoon (key_path (codes "delay"))) }
-    ensures sound { IfOk result (λ _. lookahead ≤ delay) }
+fn in_time_at(alloc: Global, least: u32, delay: u64) -> Result<(), WalkEnd>
+    ensures exact { Gives (λ _. tt) result (guard (nat_le least delay) FaultKind.SendTooSoon (key_path (codes "delay"))) }
+    ensures sound { IfOk result (λ _. least ≤ delay) }
 {
-    if lookahead as u64 <= delay {
+    if least as u64 <= delay {
         Ok(())
     } else {
         Err(WalkEnd::Fault(Fault::at_key(alloc, FaultKind::SendTooSoon, "delay")?))
@@ -46,7 +47,7 @@ pub(crate) fn send_in(
     alloc: Global,
     groups: &[Group],
     vars: &[Var],
-    lookahead: u32,
+    lookahead: Option<u32>,
     value: &Value,
 ) -> Result<Action, WalkEnd>
     requires groups { length groups.now ≤ 32 }
@@ -54,9 +55,10 @@ pub(crate) fn send_in(
     ensures exact { Gives (λ a. a) result (send_of groups.now vars.now lookahead (view value.now)) }
     ensures sound { IfOk result (λ a. IsAction (length groups.now) (length vars.now) lookahead a) }
 {
+    let least = needed_at(alloc, lookahead, "send")?;
     let group = reference_at(alloc, value, "send", groups)?;
     let delay = number_at(alloc, value, "delay", 0, 100_000)?;
-    in_time_at(alloc, lookahead, delay)?;
+    in_time_at(alloc, least, delay)?;
     let operand = operand_at(alloc, value, "value", vars)?;
     let keep = keep_at(alloc, value, vars)?;
     Ok(Action::Send {

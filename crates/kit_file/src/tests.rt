@@ -12,11 +12,16 @@ fn quoted(alloc: Global, text: &str) -> Result<Vec<u8>, AllocError> {
     Ok(bytes)
 }
 
-/// A file with these federates.
-fn of_federates(alloc: Global, federates: &str) -> Result<Vec<u8>, AllocError> {
-    let head = "{'version':1,'end':9,'buffers':4,'groups':[{'name':'g','members':['a']}]";
-    let text = format!(in alloc; "{head},'federates':[{federates}]}}")?;
+/// A file of this version with these federates.
+fn of_version(alloc: Global, version: u8, federates: &str) -> Result<Vec<u8>, AllocError> {
+    let head = "'end':9,'buffers':4,'groups':[{'name':'g','members':['a']}]";
+    let text = format!(in alloc; "{{'version':{version},{head},'federates':[{federates}]}}")?;
     quoted(alloc, &text)
+}
+
+/// A file of version 1 with these federates.
+fn of_federates(alloc: Global, federates: &str) -> Result<Vec<u8>, AllocError> {
+    of_version(alloc, 1, federates)
 }
 
 /// A file with one federate, of lookahead 2 and with the variable v, and with this rule.
@@ -54,6 +59,7 @@ fn is_answer(answer: &Result<Federation, FileFault>, variant: &str, path: &str) 
         Err(FileFault::UnknownName { path: at }) => variant == "UnknownName" && is_at(at, path),
         Err(FileFault::Repeated { path: at }) => variant == "Repeated" && is_at(at, path),
         Err(FileFault::SendTooSoon { path: at }) => variant == "SendTooSoon" && is_at(at, path),
+        Err(FileFault::NotRegulating { path: at }) => variant == "NotRegulating" && is_at(at, path),
         Err(FileFault::NoMemory) => false,
     }
 }
@@ -84,17 +90,24 @@ fn places_of_the_root(rt: HostRuntime) -> Result<(), Fail> {
     for (text, variant, path) in [
         ("[]", "WrongKind", "."),
         ("{}", "Missing", "version"),
-        ("{'version':2}", "OutOfRange", "version"),
-        ("{'version':2,'version':1}", "Missing", "end"),
+        ("{'version':0}", "OutOfRange", "version"),
+        ("{'version':3}", "OutOfRange", "version"),
+        ("{'version':2}", "Missing", "end"),
+        ("{'version':3,'version':1}", "Missing", "end"),
         ("{'version':1,'end':0}", "OutOfRange", "end"),
         ("{'version':1,'end':3.5}", "WrongKind", "end"),
         ("{'version':1,'end':-0}", "WrongKind", "end"),
         ("{'version':1,'end':1.0}", "WrongKind", "end"),
         ("{'version':1,'end':1e2}", "WrongKind", "end"),
         (
-            "{'version':1,'end':9,'buffers':65}",
+            "{'version':1,'end':9,'buffers':1025}",
             "OutOfRange",
             "buffers",
+        ),
+        (
+            "{'version':1,'end':9,'buffers':1024}",
+            "Missing",
+            "federates",
         ),
         (
             "{'version':1,'end':9,'buffers':4,'federates':[0,0,0,0,0,0,0,0,0,0,0,0,0,0,0,0,0]}",
@@ -200,6 +213,99 @@ fn places_of_a_rule(rt: HostRuntime) -> Result<(), Fail> {
         let path = format!(in alloc; "federates[0].rules[0]{tail}")?;
         let answer = read_federation(alloc, &bytes);
         assert!(rt; is_answer(&answer, variant, &path), "at {rule}");
+    }
+    Ok(())
+}
+
+#[test]
+fn federates_that_are_not_regulating(rt: HostRuntime) -> Result<(), Fail> {
+    let alloc = rt.alloc();
+    for (version, keys, variant, tail) in [
+        // In version 1 the key has no meaning.
+        (1, "'regulating':false,'lookahead':2", "Ok", ""),
+        (1, "'regulating':7,'lookahead':2", "Ok", ""),
+        (1, "'regulating':false", "Missing", ".lookahead"),
+        // In version 2 a federate is regulating where the key does not say that it is not.
+        (2, "'lookahead':2", "Ok", ""),
+        (2, "'regulating':true,'lookahead':2", "Ok", ""),
+        (2, "'regulating':true", "Missing", ".lookahead"),
+        (2, "'note':0", "Missing", ".lookahead"),
+        (2, "'regulating':false", "Ok", ""),
+        (2, "'regulating':null", "WrongKind", ".regulating"),
+        (2, "'regulating':0", "WrongKind", ".regulating"),
+        (2, "'regulating':'false'", "WrongKind", ".regulating"),
+        // The lookahead of one that is not is not looked at.
+        (2, "'regulating':false,'lookahead':0", "Ok", ""),
+        (2, "'regulating':false,'lookahead':'x'", "Ok", ""),
+        (
+            2,
+            "'regulating':true,'lookahead':0",
+            "OutOfRange",
+            ".lookahead",
+        ),
+    ] {
+        let federate = format!(in alloc; "{{'name':'a',{keys},'advance':{{'tar':1}}}}")?;
+        let bytes = of_version(alloc, version, &federate)?;
+        let path = format!(in alloc; "federates[0]{tail}")?;
+        let answer = read_federation(alloc, &bytes);
+        assert!(rt; is_answer(&answer, variant, &path), "at {version} {keys}");
+    }
+    Ok(())
+}
+
+#[test]
+fn only_a_regulating_federate_sends(rt: HostRuntime) -> Result<(), Fail> {
+    let alloc = rt.alloc();
+    for (version, regulating, action, variant, tail) in [
+        (
+            2,
+            false,
+            "'send':'g','delay':2,'value':0",
+            "NotRegulating",
+            ".send",
+        ),
+        (2, false, "'send':7", "NotRegulating", ".send"),
+        (2, false, "'retract':'v'", "NotRegulating", ".retract"),
+        (
+            2,
+            false,
+            "'retract':'none','tar':1",
+            "NotRegulating",
+            ".retract",
+        ),
+        (2, false, "'retract':'v','send':7", "NotRegulating", ".send"),
+        (2, false, "'set':'v','to':1,'send':7", "Ok", ""),
+        (2, false, "'ner':3", "Ok", ""),
+        (2, false, "'note':3", "Missing", ""),
+        (2, true, "'send':'g','delay':2,'value':0", "Ok", ""),
+        (
+            2,
+            true,
+            "'send':'g','delay':1,'value':0",
+            "SendTooSoon",
+            ".delay",
+        ),
+        (2, true, "'retract':'v'", "Ok", ""),
+        (1, false, "'send':'g','delay':2,'value':0", "Ok", ""),
+        (
+            1,
+            false,
+            "'send':'g','delay':1,'value':0",
+            "SendTooSoon",
+            ".delay",
+        ),
+        (1, false, "'retract':'none'", "UnknownName", ".retract"),
+    ] {
+        let head = "'name':'a','lookahead':2,'advance':{'tar':1},'vars':[{'name':'v','value':0}]";
+        let rules = format!(in alloc; "'rules':[{{'on':'start','do':[{{{action}}}]}}]")?;
+        let federate = format!(in alloc; "{{{head},'regulating':{regulating},{rules}}}")?;
+        let bytes = of_version(alloc, version, &federate)?;
+        let path = format!(in alloc; "federates[0].rules[0].do[0]{tail}")?;
+        let answer = read_federation(alloc, &bytes);
+        assert!(rt;
+            is_answer(&answer, variant, &path),
+            "at {version} {regulating} {action}"
+        );
     }
     Ok(())
 }

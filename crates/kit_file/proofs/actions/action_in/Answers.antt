@@ -11,4 +11,4 @@ pub returns-then-is_some-3-clause-sound : goal.returns-then-is_some-3-clause-sou
 returns-then-is_some-3-clause-sound c = c.sub_in.ensures.sound (length c.args.groups.now) c.args.lookahead
 
 pub returns-clause-sound : goal.returns-clause-sound
-returns-clause-sound c = c.last_kinds_in.ensures.sound (length c.args.groups.now) c.args.lookahead
+returns-clause-sound c = c.last_kinds_in.ensures.sound (length c.args.groups.now)
