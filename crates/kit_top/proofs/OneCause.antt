@@ -63,6 +63,7 @@ bad_cases bytes (file.OutOfRange path) h = inr h
 bad_cases bytes (file.UnknownName path) h = inr h
 bad_cases bytes (file.Repeated path) h = inr h
 bad_cases bytes (file.SendTooSoon path) h = inr h
+bad_cases bytes (file.NotRegulating path) h = inr h
 bad_cases bytes file.NoMemory h = absurd h
 
 bad_same : (bytes : List ℕ) (f g : FileFault) → IsBadFile bytes f → IsBadFile bytes g → f ≡ g

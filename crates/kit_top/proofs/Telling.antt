@@ -52,6 +52,7 @@ bad_file bytes (file.OutOfRange path) at not_json other = at
 bad_file bytes (file.UnknownName path) at not_json other = at
 bad_file bytes (file.Repeated path) at not_json other = at
 bad_file bytes (file.SendTooSoon path) at not_json other = at
+bad_file bytes (file.NotRegulating path) at not_json other = at
 bad_file bytes file.NoMemory at not_json other = absurd (other refl)
 
 -- that fault, with its line, is caused by the file

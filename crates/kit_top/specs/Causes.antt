@@ -83,6 +83,7 @@ bad_file_text (file.OutOfRange path) = path_text (codes "OutOfRange") path
 bad_file_text (file.UnknownName path) = path_text (codes "UnknownName") path
 bad_file_text (file.Repeated path) = path_text (codes "Repeated") path
 bad_file_text (file.SendTooSoon path) = path_text (codes "SendTooSoon") path
+bad_file_text (file.NotRegulating path) = path_text (codes "NotRegulating") path
 bad_file_text file.NoMemory = []
 
 -- the bytes are no JSON text, or this is the first fault of their walk
@@ -94,6 +95,7 @@ IsBadFile bytes (file.OutOfRange path) = IsFirstFault bytes (file.OutOfRange pat
 IsBadFile bytes (file.UnknownName path) = IsFirstFault bytes (file.UnknownName path)
 IsBadFile bytes (file.Repeated path) = IsFirstFault bytes (file.Repeated path)
 IsBadFile bytes (file.SendTooSoon path) = IsFirstFault bytes (file.SendTooSoon path)
+IsBadFile bytes (file.NotRegulating path) = IsFirstFault bytes (file.NotRegulating path)
 IsBadFile bytes file.NoMemory = ⊥
 
 -- a fault that is to be told, with its line

@@ -33,6 +33,7 @@ fn bad_file_line(alloc: Global, fault: &FileFault) -> Result<Vec<u8>, AllocError
         FileFault::UnknownName { path } => path_line(alloc, "UnknownName", path),
         FileFault::Repeated { path } => path_line(alloc, "Repeated", path),
         FileFault::SendTooSoon { path } => path_line(alloc, "SendTooSoon", path),
+        FileFault::NotRegulating { path } => path_line(alloc, "NotRegulating", path),
         FileFault::NoMemory => Err(AllocError),
     }
 }

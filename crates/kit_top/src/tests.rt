@@ -72,6 +72,45 @@ fn faults_of_files_give_their_lines(rt: HostRuntime) -> Result<(), AllocError> {
     Ok(())
 }
 
+/// A file whose first federate sends 71 messages to the second at its start, and takes the last back.
+fn many_at_once(alloc: Global) -> Result<Vec<u8>, AllocError> {
+    let mut file = Vec::from_slice(
+        alloc,
+        br#"{"version":1,"end":4,"buffers":128,"groups":[{"name":"g","members":["b"]}],"federates":[{"name":"a","lookahead":2,"advance":{"tar":4},"vars":[{"name":"m","value":0}],"rules":["#,
+    )?;
+    for _ in 0..5u8 {
+        file.extend_from_slice(br#"{"on":"start","do":["#)?;
+        for action in 0..14u8 {
+            file.extend_from_slice(if action == 0 { b"" } else { b"," })?;
+            file.extend_from_slice(br#"{"send":"g","delay":3,"value":1}"#)?;
+        }
+        file.extend_from_slice(b"]},")?;
+    }
+    file.extend_from_slice(
+        br#"{"on":"start","do":[{"send":"g","delay":4,"value":9,"keep":"m"},{"retract":"m"}]}]},{"name":"b","lookahead":1,"advance":{"tar":4}}]}"#,
+    )?;
+    Ok(file)
+}
+
+#[test]
+fn pools_may_have_more_than_64_buffers(rt: HostRuntime) -> Result<(), AllocError> {
+    let file = many_at_once(rt.alloc())?;
+    let mut text = Vec::from_slice(rt.alloc(), b"4 a grant\n")?;
+    for number in 1..=70u8 {
+        let line = format!(in rt.alloc(); "4 b got g a#{number} @3 = 1\n")?;
+        text.extend_from_slice(line.as_bytes())?;
+    }
+    text.extend_from_slice(b"4 b grant\nend a m=71\nend b\n")?;
+    let (code, held) = run(rt.alloc(), "oracle", &file)?;
+    assert_eq!(rt; code, 0);
+    assert_eq!(rt; held.as_slice(), text.as_slice());
+    let (code, held) = run(rt.alloc(), "check", &file)?;
+    assert_eq!(rt; code, 0);
+    let needs = b"need a 72\nneed b 0\nbuffers 128 enough\n".as_slice();
+    assert_eq!(rt; held.as_slice(), needs);
+    Ok(())
+}
+
 #[test]
 fn other_words_are_a_usage_fault(rt: HostRuntime) -> Result<(), AllocError> {
     for line in [

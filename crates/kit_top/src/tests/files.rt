@@ -29,8 +29,19 @@ const OWN_GROUP: &str =
 const ONE_BUFFER: &str =
     r#"{"version":1,"end":8,"buffers":1,"groups":[{"name":"g","members":["b"]}],"federates":[{"name":"a","lookahead":5,"advance":{"tar":1},"rules":[{"on":"grant","if":[{"left":"$now","is":"eq","right":1}],"do":[{"send":"g","delay":5,"value":1}]},{"on":"grant","if":[{"left":"$now","is":"eq","right":2}],"do":[{"send":"g","delay":5,"value":2}]}]},{"name":"b","lookahead":5,"advance":{"tar":5}}]}"#;
 
+const MOST_BUFFERS: &str =
+    r#"{"version":1,"end":4,"buffers":1024,"groups":[{"name":"g","members":["b"]}],"federates":[{"name":"a","lookahead":2,"advance":{"tar":4},"vars":[{"name":"m","value":0}],"rules":[{"on":"start","do":[{"send":"g","delay":4,"value":9,"keep":"m"},{"retract":"m"}]}]},{"name":"b","lookahead":1,"advance":{"tar":4}}]}"#;
+
+/// The second federate is not time-regulating.
+const LISTENER: &str =
+    r#"{"version":2,"end":10,"buffers":1,"federates":[{"name":"a","lookahead":5,"advance":{"tar":5}},{"name":"b","regulating":false,"advance":{"tar":1}}]}"#;
+
+/// The same in version 1, where each federate is time-regulating, whatever its keys say.
+const NO_LISTENER: &str =
+    r#"{"version":1,"end":10,"buffers":1,"federates":[{"name":"a","lookahead":5,"advance":{"tar":5}},{"name":"b","regulating":false,"lookahead":1,"advance":{"tar":1}}]}"#;
+
 /// Files that are accepted, each with the text of its simulation.
-pub(crate) const TEXTS: [(&str, &str); 9] = [
+pub(crate) const TEXTS: [(&str, &str); 12] = [
     (ONE_FEDERATE, "1 a grant\n2 a grant\n3 a grant\nend a\n"),
     (
         LATE_READER,
@@ -61,22 +72,35 @@ pub(crate) const TEXTS: [(&str, &str); 9] = [
         "4 a grant\n4 b grant\nend a m=1\nend b\n",
     ),
     (OWN_GROUP, "1 a grant\nend a\n"),
+    (MOST_BUFFERS, "4 a grant\n4 b grant\nend a m=1\nend b\n"),
+    (
+        LISTENER,
+        "1 b grant\n2 b grant\n3 b grant\n4 b grant\n5 a grant\n5 b grant\n6 b grant\n7 b grant\n8 b grant\n9 b grant\n10 a grant\n10 b grant\nend a\nend b\n",
+    ),
+    (
+        NO_LISTENER,
+        "1 b grant\n2 b grant\n3 b grant\n4 b grant\n5 a grant\n5 b grant\n6 b grant\n7 b grant\n8 b grant\n9 b grant\n10 a grant\n10 b grant\nend a\nend b\n",
+    ),
 ];
 
 /// Files that are accepted, each with the text of its needs.
-pub(crate) const NEEDS: [(&str, &str); 4] = [
+pub(crate) const NEEDS: [(&str, &str); 6] = [
     (NEXT_EVENT, "need a 2\nneed b 0\nbuffers 2 enough\n"),
     (TAKEN_BACK_AT_ONCE, "need a 2\nneed b 0\nbuffers 2 enough\n"),
     (OWN_GROUP, "need a 0\nbuffers 1 enough\n"),
     (ONE_BUFFER, "need a 2\nneed b 0\nbuffers 1 short\n"),
+    (MOST_BUFFERS, "need a 2\nneed b 0\nbuffers 1024 enough\n"),
+    (LISTENER, "need a 0\nneed b 0\nbuffers 1 enough\n"),
 ];
 
 /// Files with a fault, each with the rest of its line.
-pub(crate) const FAULTS: [(&str, &str); 9] = [
+pub(crate) const FAULTS: [(&str, &str); 15] = [
     (r#""#, "NotJson"),
     (r#"[]"#, "WrongKind ."),
     (r#"{}"#, "Missing version"),
-    (r#"{"version":2}"#, "OutOfRange version"),
+    (r#"{"version":0}"#, "OutOfRange version"),
+    (r#"{"version":3}"#, "OutOfRange version"),
+    (r#"{"version":2}"#, "Missing end"),
     (r#"{"version":1,"end":0}"#, "OutOfRange end"),
     (
         r#"{"version":1,"end":3.5,"buffers":1,"federates":[{"name":"a","lookahead":1,"advance":{"tar":1}}]}"#,
@@ -93,5 +117,21 @@ pub(crate) const FAULTS: [(&str, &str); 9] = [
     (
         r#"{"version":1,"end":2,"buffers":1,"groups":[{"name":"g","members":["b"]}],"federates":[{"name":"a","lookahead":2,"advance":{"tar":1},"rules":[{"on":"start","do":[{"send":"g","delay":1,"value":7}]}]},{"name":"b","lookahead":1,"advance":{"tar":2}}]}"#,
         "SendTooSoon federates[0].rules[0].do[0].delay",
+    ),
+    (
+        r#"{"version":1,"end":4,"buffers":1025,"groups":[{"name":"g","members":["b"]}],"federates":[{"name":"a","lookahead":2,"advance":{"tar":4},"vars":[{"name":"m","value":0}],"rules":[{"on":"start","do":[{"send":"g","delay":4,"value":9,"keep":"m"},{"retract":"m"}]}]},{"name":"b","lookahead":1,"advance":{"tar":4}}]}"#,
+        "OutOfRange buffers",
+    ),
+    (
+        r#"{"version":2,"end":10,"buffers":1,"federates":[{"name":"a","lookahead":5,"advance":{"tar":5}},{"name":"b","regulating":false,"advance":{"tar":1},"rules":[{"on":"start","do":[{"send":"g","delay":1,"value":0}]}]}]}"#,
+        "NotRegulating federates[1].rules[0].do[0].send",
+    ),
+    (
+        r#"{"version":2,"end":10,"buffers":1,"federates":[{"name":"a","lookahead":5,"advance":{"tar":5}},{"name":"b","regulating":false,"advance":{"tar":1},"rules":[{"on":"grant","do":[{"tar":1},{"retract":"v"}]}]}]}"#,
+        "NotRegulating federates[1].rules[0].do[1].retract",
+    ),
+    (
+        r#"{"version":2,"end":10,"buffers":1,"federates":[{"name":"a","lookahead":5,"advance":{"tar":5}},{"name":"b","regulating":0,"advance":{"tar":1}}]}"#,
+        "WrongKind federates[1].regulating",
     ),
 ];
