@@ -1,5 +1,5 @@
 -- Steps that leave all that the rule of this client reads: one law, and the steps that it is for.
-use Rattle.std.proofs.Common.{Bool, true, false, ◌≡◌, ◌≢◌, ℕ, ◌<◌, ◌==◌, if◌then◌else◌, List, length, refl, sym, ap, ◌∙◌, subst, eqb-true}
+use Rattle.std.proofs.Common.{Bool, true, false, ◌≡◌, ◌≢◌, ℕ, ◌/◌, ◌<◌, ◌==◌, if◌then◌else◌, List, length, refl, sym, ap, ◌∙◌, subst, eqb-true}
 use Rattle.std.specs.Prelude.{Contains, slice_index, slice_set}
 use Rattle.std.specs.Int.{bit_at}
 use Rattle.kit_ground.specs.declared.address.Address.{Address}
@@ -85,5 +85,5 @@ module _ (p : P) where
   pub sees_free : (k : ℕ) → Keeps courier_rule delivered p (Count p.own.number k) (λ count. SawFree k (count == 0))
   sees_free k = aside p (Count p.own.number k) (λ count. SawFree k (count == 0)) (record { words = finds (Count p.own.number k) (λ count. SawFree k (count == 0)) (λ found. refl); view = λ found. refl; holds = λ found. refl })
 
-  pub posts : (k j : ℕ) → Keeps courier_rule delivered p (Mail j p.own.number) (λ _. PostedTo k j)
-  posts k j = aside p (Mail j p.own.number) (λ _. PostedTo k j) (record { words = elsewhere (Mail j p.own.number) (λ _. PostedTo k j) (λ no. no); view = λ found. refl; holds = λ found. refl })
+  pub posts : (k j : ℕ) → Keeps courier_rule delivered p (Mail j p.own.number (k / 64)) (λ _. PostedTo k j)
+  posts k j = aside p (Mail j p.own.number (k / 64)) (λ _. PostedTo k j) (record { words = elsewhere (Mail j p.own.number (k / 64)) (λ _. PostedTo k j) (λ no. no); view = λ found. refl; holds = λ found. refl })

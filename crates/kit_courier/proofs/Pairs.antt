@@ -13,6 +13,7 @@ use Rattle.kit_ground.specs.Coming.{Came, Did}
 use Rattle.kit_ground.specs.Floors.{Floor, Ruled, memory, opened, place_of}
 use Rattle.kit_ground.specs.Memory.{Memory, stored}
 use Rattle.kit_ground.specs.Rules.{blank, own_at_first}
+use Rattle.kit_ground.specs.Steps.{mail_index}
 use Rattle.kit_ground.proofs.Bits.{joined_here}
 use Rattle.kit_ground.proofs.Layouts.{memory_blank}
 use Rattle.kit_ground.proofs.Memories.{stored_here}
@@ -41,7 +42,7 @@ abbrev receipt_of : Letter → Receipt
 receipt_of letter = record { from = 0; letter = letter }
 
 -- what was got, of one who had got nothing
-pub got_from : (p q : Place CourierView) (o : Option Letter) → p.client.got ≡ [] → MatchOption o (IsUnmoved p 0 q) (λ letter. IsReceived p 0 letter q) → q.client.got ≡ map receipt_of (option_to_list o)
+pub got_from : (p q : Place CourierView) (o : Option Letter) → p.client.got ≡ [] → MatchOption o (IsUnmoved p 0 0 q) (λ letter. IsReceived p 0 0 letter q) → q.client.got ≡ map receipt_of (option_to_list o)
 got_from p q None new h = h.got ∙ new
 got_from p q (Some letter) new h = h.got ∙ ap (λ l. l ++ receipt_of letter ∷ []) new
 
@@ -79,13 +80,17 @@ module _ (f g h : F) (new : f ≡ opened courier_first tt 2 1) (first : Came cou
         seated_at courier_first k 1 (second.seated ∙ seated_second) (omega arith)
 
     -- what it got is the letter that the first sent
-    pub got_is_sent : (t : Bool) (letter got : Letter) → Ruled courier_rule k → (at g).client.sent ≡ (if t then (at f).client.sent ++ letter ∷ [] else (at f).client.sent) → IsReceived (at h) 0 got (at k) → got ≡ letter
+    pub got_is_sent : (t : Bool) (letter got : Letter) → Ruled courier_rule k → (at g).client.sent ≡ (if t then (at f).client.sent ++ letter ∷ [] else (at f).client.sent) → IsReceived (at h) 0 0 got (at k) → got ≡ letter
     got_is_sent t letter got ruled sent received =
         let receipt : Receipt = record { from = 0; letter = got } in
         let has : Contains (at k).client.got receipt = subst (λ (l : List Receipt). Contains l receipt) (sym received.got) (Contains-push (at h).client.got receipt) in
         let was : Contains (sent_by k.places 0) got = (ruled.words.client.letters.each 1 (at k) second_there).got receipt has in
         let all : sent_by k.places 0 ≡ (if t then [] ++ letter ∷ [] else []) = sent_here k.places 0 (at g) first_there ∙ (sent ∙ ap (λ (x : F). if t then (at x).client.sent ++ letter ∷ [] else (at x).client.sent) new) in
         only_letter t letter got (subst (λ (l : List Letter). Contains l got) all was)
+
+-- where the first mail word stands among all
+pub first_mail : (m : ℕ) → mail_index m 0 0 ≡ 0
+first_mail m = omega arith
 
 -- a new floor's first look finds its buffer free
 pub free_at_first : (f g : F) (t : Bool) → f ≡ opened courier_first tt 2 1 → Did courier_first f (SawFree 0 t) g → t ≡ true
@@ -94,18 +99,18 @@ free_at_first f g t new did =
     did.step.allowed.2 ∙ ap (λ (m : Memory). m (Count (at f).own.number 0) == 0) zeros
 
 -- after the first posted its buffer, the second's mail has its bit
-pub mail_has : (g k : F) → (at g).own.number ≡ 0 → Did courier_first g (PostedTo 0 1) k → bit_at (memory k (Mail 1 0)) 0 ≡ 1
+pub mail_has : (g k : F) → (at g).own.number ≡ 0 → Did courier_first g (PostedTo 0 1) k → bit_at (memory k (Mail 1 0 0)) 0 ≡ 1
 mail_has g k zero did =
-    let was : ℕ = memory g (Mail 1 (at g).own.number) in
-    let now = did.step.stores ∙ (λ i. stored (memory g) (Mail 1 (zero i)) (bit_or was (2 ^ 0))) in
-    ap (λ (m : Memory). bit_at (m (Mail 1 0)) 0) now ∙ (ap (λ (v : ℕ). bit_at v 0) (stored_here (memory g) (Mail 1 0) (bit_or was (2 ^ 0))) ∙ joined_here was 0)
+    let was : ℕ = memory g (Mail 1 (at g).own.number 0) in
+    let now = did.step.stores ∙ (λ i. stored (memory g) (Mail 1 (zero i) 0) (bit_or was (2 ^ 0))) in
+    ap (λ (m : Memory). bit_at (m (Mail 1 0 0)) 0) now ∙ (ap (λ (v : ℕ). bit_at v 0) (stored_here (memory g) (Mail 1 0 0) (bit_or was (2 ^ 0))) ∙ joined_here was 0)
 
 -- so what the second collects is not 0
-pub not_none : (h k : F) (mail : ℕ) (o : Option Letter) → (at h).own.number ≡ 1 → bit_at (memory h (Mail 1 0)) 0 ≡ 1 → Did courier_first h (Collected 0 mail) k → (o ≡ None → mail ≡ 0) → o ≡ None → ⊥
+pub not_none : (h k : F) (mail : ℕ) (o : Option Letter) → (at h).own.number ≡ 1 → bit_at (memory h (Mail 1 0 0)) 0 ≡ 1 → Did courier_first h (Collected 0 0 mail) k → (o ≡ None → mail ≡ 0) → o ≡ None → ⊥
 not_none h k mail o one on did none e =
-    let found : mail ≡ memory h (Mail 1 0) = did.step.allowed.2 ∙ ap (λ (j : ℕ). memory h (Mail j 0)) one in
+    let found : mail ≡ memory h (Mail 1 0 0) = did.step.allowed.3 ∙ ap (λ (j : ℕ). memory h (Mail j 0 0)) one in
     let off : bit_at mail 0 ≡ 0 = ap (λ (m : ℕ). bit_at m 0) (none e) ∙ bit_at-zero 0 in
-    let same : bit_at mail 0 ≡ bit_at (memory h (Mail 1 0)) 0 = ap (λ (m : ℕ). bit_at m 0) found in
+    let same : bit_at mail 0 ≡ bit_at (memory h (Mail 1 0 0)) 0 = ap (λ (m : ℕ). bit_at m 0) found in
     omega (arith, off, same, on)
 
 -- an answer that is there, and is the letter

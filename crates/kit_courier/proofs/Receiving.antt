@@ -14,7 +14,7 @@ use Rattle.kit_ground.specs.declared.place.Deed.TheVariants.{Collected, ReadPart
 use Rattle.kit_ground.specs.declared.place.Place.{Place}
 use Rattle.kit_ground.specs.Memory.{Memory, stored}
 use Rattle.kit_ground.specs.Rules.{Keeps, World}
-use Rattle.kit_ground.specs.Steps.{becomes}
+use Rattle.kit_ground.specs.Steps.{becomes, mail_mask}
 use Rattle.kit_ground.proofs.HeldMasks.{held_less, held_more}
 use Rattle.kit_ground.proofs.Lists.{at_or}
 use Rattle.kit_ground.proofs.Memories.{count_else, stored_same}
@@ -62,12 +62,12 @@ read_was_sent p m places w i k head is =
     subst (λ (l : List Letter). Contains l (record { head = head; body = m (Part i k 1) })) (sym (sent_here places i sender at)) (subst (Contains sender.client.sent) letter has)
 
 module _ (p : P) where
-  pub collects : (from : ℕ) → Keeps courier_rule delivered p (Mail p.own.number from) (λ mail. Collected from mail)
-  collects from m places w =
+  pub collects : (from word : ℕ) → Keeps courier_rule delivered p (Mail p.own.number from word) (λ mail. Collected from word mail)
+  collects from word m places w =
       let me : ℕ = p.own.number in
-      let mail : ℕ = m (Mail me from) in
-      let deed = Collected from mail in
-      let now : Memory = stored m (Mail me from) 0 in
+      let mail : ℕ = m (Mail me from word) in
+      let deed = Collected from word mail in
+      let now : Memory = stored m (Mail me from word) 0 in
       let rule = mine p m places w now deed in
       let here = w.floor.each me p w.here in
       let wide : length p.own.stock.holds ≡ length places = holds_wide p.own.buffers m places w.floor me p w.here in
@@ -75,7 +75,7 @@ module _ (p : P) where
       (letters_still p m places w now deed (record { counted = λ i x li lx on. on; words = λ i x y li lx on. refl }) refl
       (λ r is.
       let h = rule.reading r is in
-      record { from = h.from; buffer = h.buffer; held = held_more p.own.stock.holds from mail r.from r.buffer (subst (λ (n : ℕ). r.from < n) (here.federates ∙ sym wide) h.from) h.held; head = h.head })
+      record { from = h.from; buffer = h.buffer; held = held_more p.own.stock.holds from (mail_mask word mail) r.from r.buffer (subst (λ (n : ℕ). r.from < n) (here.federates ∙ sym wide) h.from) h.held; head = h.head })
       (λ t has. rule.got t has))
 
   -- from now on the seat is reading this buffer

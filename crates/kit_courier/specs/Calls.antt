@@ -1,12 +1,13 @@
 -- What the calls of this client come to, from the seat's place before to its place after.
-use Rattle.std.specs.Prelude.{◌≡◌, ◌≢◌, ℕ, ◌+◌, ◌-◌, ◌^◌, ◌<◌, ◌≤◌, ◌⊎◌, Bool, false, List, [], ◌∷◌, ◌++◌, Contains, bit_or, slice_index, slice_index_or}
+use Rattle.std.specs.Prelude.{◌≡◌, ◌≢◌, ℕ, ◌+◌, ◌-◌, ◌*◌, ◌^◌, ◌<◌, ◌≤◌, ◌⊎◌, Bool, false, List, [], ◌∷◌, ◌++◌, Contains, bit_or, slice_index, slice_index_or}
 use Rattle.std.specs.Int.{bit_at}
 use Rattle.kit_ground.specs.declared.place.Deed.TheVariants.{PostedTo}
 use Rattle.kit_ground.specs.declared.place.Glance.{Glance}
 use Rattle.kit_ground.specs.declared.place.Place.{Place}
+use Rattle.kit_ground.specs.Layout.{mail_words}
 use Rattle.kit_ground.specs.Memory.{Memory}
 use Rattle.kit_ground.specs.Rules.{World}
-use Rattle.kit_ground.specs.Steps.{acted, buffer_of, reg_index}
+use Rattle.kit_ground.specs.Steps.{acted, buffer_of, mail_index, mail_mask, reg_index}
 use Rattle.kit_courier.specs.declared.view.CourierView.{CourierView}
 use Rattle.kit_courier.specs.declared.view.Letter.{Letter}
 use Rattle.kit_courier.specs.Couriers.{courier_rule}
@@ -59,32 +60,36 @@ pub record WasSent (p : Place CourierView) (from : ℕ) (letter : Letter) (q : P
   pub until : seat.own.steps < q.own.steps
   pub world : (m : Memory) × (places : List (Place CourierView)) × World courier_rule seat m places × Contains (sent_by places from) letter
 
--- the mail of the last collect
-abbrev pub last_mail : Place CourierView → ℕ → ℕ
-last_mail p from = (slice_index_or p.own.mail from (record { step = 0; gave = 0 })).gave
+-- where a mail word of `from` stands among all that the seat collects
+abbrev pub place_of_mail : Place CourierView → ℕ → ℕ → ℕ
+place_of_mail p from word = mail_index (mail_words p.own.buffers) from word
 
--- the mail of `from` was collected once since p
-abbrev pub HasCollected : Place CourierView → ℕ → Place CourierView → Type 0
-HasCollected p from q = slice_index q.own.collects from ≡ slice_index p.own.collects from + 1
+-- what the last collect of this mail word of `from` gave
+abbrev pub last_mail : Place CourierView → ℕ → ℕ → ℕ
+last_mail p from word = (slice_index_or p.own.mail (place_of_mail p from word) (record { step = 0; gave = 0 })).gave
+
+-- this mail word of `from` was collected once since p
+abbrev pub HasCollected : Place CourierView → ℕ → ℕ → Place CourierView → Type 0
+HasCollected p from word q = slice_index q.own.collects (place_of_mail p from word) ≡ slice_index p.own.collects (place_of_mail p from word) + 1
 
 abbrev pub held_of : Place CourierView → ℕ → ℕ
 held_of p from = slice_index p.own.stock.holds from
 
--- of the buffers that were posted one is released again, and the others are held
-pub record IsEmptied (p : Place CourierView) (from : ℕ) (q : Place CourierView) : Type 0 where
-  pub buffer : ℕ
-  pub posted : bit_at (last_mail q from) buffer ≡ 1
-  pub lowest : (k : ℕ) → k < buffer → bit_at (last_mail q from) k ≡ 0
-  pub released : bit_at (held_of q from) buffer ≡ 0
-  pub others : (k : ℕ) → k ≢ buffer → bit_at (held_of q from) k ≡ bit_at (bit_or (held_of p from) (last_mail q from)) k
+-- of the buffers that were posted in this word one is released again, and the others are held
+pub record IsEmptied (p : Place CourierView) (from word : ℕ) (q : Place CourierView) : Type 0 where
+  pub low : ℕ
+  pub posted : bit_at (last_mail q from word) low ≡ 1
+  pub lowest : (k : ℕ) → k < low → bit_at (last_mail q from word) k ≡ 0
+  pub released : bit_at (held_of q from) (64 * word + low) ≡ 0
+  pub others : (k : ℕ) → k ≢ 64 * word + low → bit_at (held_of q from) k ≡ bit_at (bit_or (held_of p from) (mail_mask word (last_mail q from word))) k
 
 -- a letter came
-pub record IsReceived (p : Place CourierView) (from : ℕ) (letter : Letter) (q : Place CourierView) : Type 0 where
+pub record IsReceived (p : Place CourierView) (from word : ℕ) (letter : Letter) (q : Place CourierView) : Type 0 where
   pub got : q.client.got ≡ p.client.got ++ record { from = from; letter = letter } ∷ []
   pub sent : WasSent p from letter q
-  pub emptied : IsEmptied p from q
+  pub emptied : IsEmptied p from word q
 
 -- no letter was there
-pub record IsUnmoved (p : Place CourierView) (from : ℕ) (q : Place CourierView) : Type 0 where
+pub record IsUnmoved (p : Place CourierView) (from word : ℕ) (q : Place CourierView) : Type 0 where
   pub got : q.client.got ≡ p.client.got
-  pub mail : last_mail q from ≡ 0
+  pub mail : last_mail q from word ≡ 0

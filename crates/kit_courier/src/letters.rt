@@ -1,6 +1,7 @@
 ghost use Rattle.std.specs.Prelude.{◌≡◌, ◌≢◌, ℕ, ◌<◌, ◌^◌, [], ◌∷◌, ◌++◌, if◌then◌else◌, IsTrue, MatchOption, None};
 ghost use Rattle.std.specs.Int.{bit_at};
 ghost use Rattle.kit_ground.specs.declared.place.Deed.TheVariants.{Collected, PostedTo, SawFree};
+ghost use Rattle.kit_ground.specs.Layout.{mail_words};
 ghost use Rattle.kit_ground.specs.Steps.{buffer_of};
 ghost use Rattle.kit_courier.specs.Calls.{HasCollected, HasSeen, IsPosted, IsReceived, IsSameSeat, IsUnmoved, OwesTheSame};
 
@@ -40,33 +41,37 @@ pub fn send<G: Ground<Under = Couriers>>(seat: &mut G, buffer: u16, to: u8, lett
     true
 }
 
-/// The lowest buffer of a mail word.
+/// The lowest bit of a mail word.
 fn lowest(mail: u64) -> u16
     requires { mail ≢ 0 }
+    ensures small { result < 64 }
     ensures posted { bit_at mail result ≡ 1 }
     ensures least { (k : ℕ) → k < result → bit_at mail k ≡ 0 }
 {
     mail.trailing_zeros() as u16
 }
 
-/// Collects the mail of another federate, and reads the letter of the lowest buffer that was posted.
+/// Collects a mail word of another federate, and reads the letter of the lowest of its buffers that
+/// were posted.
 ///
 /// The other buffers that were posted stay held.
-pub fn receive<G: Ground<Under = Couriers>>(seat: &mut G, from: u8) -> Option<Letter>
+pub fn receive<G: Ground<Under = Couriers>>(seat: &mut G, from: u8, word: u8) -> Option<Letter>
     requires from { from < (G.place seat.old).own.federates }
     requires other { from ≢ (G.place seat.old).own.number }
+    requires word { word < mail_words (G.place seat.old).own.buffers }
     ensures came { G.came seat.old seat.new }
     ensures same { IsSameSeat (G.place seat.old) (G.place seat.new) }
     ensures owed { OwesTheSame (G.place seat.old) (G.place seat.new) }
-    ensures collect { (mail : ℕ) × (after : G) × G.did seat.old (Collected from mail) after × (result ≡ None → mail ≡ 0) }
-    ensures collected { HasCollected (G.place seat.old) from (G.place seat.new) }
-    ensures letter { MatchOption result (IsUnmoved (G.place seat.old) from (G.place seat.new)) (λ letter. IsReceived (G.place seat.old) from letter (G.place seat.new)) }
+    ensures collect { (mail : ℕ) × (after : G) × G.did seat.old (Collected from word mail) after × (result ≡ None → mail ≡ 0) }
+    ensures collected { HasCollected (G.place seat.old) from word (G.place seat.new) }
+    ensures letter { MatchOption result (IsUnmoved (G.place seat.old) from word (G.place seat.new)) (λ letter. IsReceived (G.place seat.old) from word letter (G.place seat.new)) }
 {
-    let mail = seat.collect::<Deliveries>(from);
+    let mail = seat.collect::<Deliveries>(from, word);
     if mail == 0 {
         return None;
     }
-    let buffer = lowest(mail);
+    let low = lowest(mail);
+    let buffer = 64 * (word as u16) + low;
     let head = seat.read_part::<Deliveries>(from, buffer, 0);
     let body = seat.read_part::<Deliveries>(from, buffer, 1);
     seat.release::<Deliveries>(from, buffer);

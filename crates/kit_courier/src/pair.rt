@@ -16,7 +16,7 @@ pub fn hand_over(floor: &mut PlainFloor<Couriers>, letter: Letter) -> Option<Let
 {
     send(floor, 0, 1, letter);
     floor.seat(1);
-    let got = receive(floor, 0);
+    let got = receive(floor, 0, 0);
     floor.ruled();
     got
 }

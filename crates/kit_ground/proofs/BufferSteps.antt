@@ -1,11 +1,9 @@
 -- The rule of the sets after a step that changes what the seat knows of one of its buffers.
-use Rattle.std.proofs.Common.{Bool, true, ◌≡◌, ◌≢◌, ℕ, zero, suc, ◌+◌, ◌^◌, ◌<◌, ◌≤◌, List, length, refl, sym, ap, ◌∙◌, subst, arith, true≢false, length-set}
-use Rattle.std.proofs.Math.Pow.{pow-lt}
+use Rattle.std.proofs.Common.{Bool, true, ◌≡◌, ◌≢◌, ℕ, zero, suc, ◌+◌, ◌*◌, ◌/◌, ◌%◌, ◌^◌, ◌<◌, ◌≤◌, List, length, refl, sym, ap, ◌∙◌, subst, arith, true≢false, length-set}
 use Rattle.std.proofs.lemmas.Nat.Bits.{bit_at-lt}
 use Rattle.std.specs.Prelude.{slice_index, bit_or}
 use Rattle.std.specs.Int.{bit_at}
 use Rattle.std.specs.Int.Count.{ones}
-use lib.Bits.{or_lt}
 use mathlib.Core.Logic.{dite}
 use native.Mathlib.Decide.{ℕ_discrete}
 use Rattle.kit_ground.specs.declared.address.Address.TheVariants.{Mail, Count, Part}
@@ -15,8 +13,9 @@ use Rattle.kit_ground.specs.Memory.{Memory, stored}
 use Rattle.kit_ground.specs.Sets.{Pool, buffer_at, due, stock_at, to_be_posted, posted, holding}
 use Rattle.kit_ground.specs.Steps.{buffer_of, with_buffer, part_of, seen, written, charged, posted_to}
 use Rattle.kit_ground.proofs.Bits.{flipped_else, flipped_here, joined_else, joined_here}
-use Rattle.kit_ground.proofs.Fits.{Fits, at_buffer, due_is, due_same, fits, fits_as_before, fits_aside, pool_from_fits, seat_inside, buffers_long, holds_long}
+use Rattle.kit_ground.proofs.Fits.{Fits, Narrow, at_buffer, due_is, due_same, fits, fits_as_before, fits_aside, pool_from_fits, seat_inside, buffers_long, holds_long}
 use Rattle.kit_ground.proofs.Memories.{stored_here, count_else, mail_else, part_else}
+use Rattle.kit_ground.proofs.MailWords.{same_buffer, whole_buffer}
 use Rattle.kit_ground.proofs.Ones.{ones_sum}
 use Rattle.kit_ground.proofs.SetFacts.{free_in_none, to_be_posted_due}
 use Rattle.kit_ground.proofs.Stocks.{rebuffered, holds_kept, buffer_here, buffer_else}
@@ -77,7 +76,7 @@ module _ (m : Memory) (stocks : List Stock) (n b me : ℕ) (s : Stock) (h : Pool
         → ((i x : ℕ) → (i ≡ me → x ≢ k) → now (Count i x) ≡ m (Count i x))
         → ((i x p : ℕ) → (i ≡ me → x ≢ k) → now (Part i x p) ≡ m (Part i x p))
         → ((i x j : ℕ) → (i ≡ me → x ≢ k) → posted now (after c) i x j ≡ posted m stocks i x j)
-        → ((j i : ℕ) → j < n → i < n → now (Mail j i) < 2 ^ b) → Pool now (after c) n b
+        → Narrow now n b → Pool now (after c) n b
     from_here now c here count parts mail narrow =
         pool_from_fits m stocks n b h now me (with_buffer k c s) inside (length-set s.buffers k c ∙ long_buffers) long_holds
         (at_buffer (Fits now (after c) n) n b me k here (λ i x li lx apart.
@@ -142,35 +141,48 @@ module _ (m : Memory) (stocks : List Stock) (n b me : ℕ) (s : Stock) (h : Pool
         (λ i x apart. count_else m me k i x (ones mask) apart) (λ i x p apart. refl) (λ i x j apart. refl) h.narrow
 
     -- ---- a post
-    pub posts : (j : ℕ) → j < n → bit_at old.to_post j ≡ 1 → Pool (stored m (Mail j me) (bit_or (m (Mail j me)) (2 ^ k))) (after (posted_to j old)) n b
+    pub posts : (j : ℕ) → j < n → bit_at old.to_post j ≡ 1 → Pool (stored m (Mail j me (k / 64)) (bit_or (m (Mail j me (k / 64))) (2 ^ (k % 64)))) (after (posted_to j old)) n b
     posts j lj on =
         let c : Buffer = posted_to j old in
-        let mail : ℕ = m (Mail j me) in
-        let now : Memory = stored m (Mail j me) (bit_or mail (2 ^ k)) in
-        let mail_here : now (Mail j me) ≡ bit_or mail (2 ^ k) = stored_here m (Mail j me) (bit_or mail (2 ^ k)) in
+        let w : ℕ = k / 64 in
+        let bit : ℕ = k % 64 in
+        let mail : ℕ = m (Mail j me w) in
+        let more : ℕ = bit_or mail (2 ^ bit) in
+        let now : Memory = stored m (Mail j me w) more in
+        let mail_here : now (Mail j me w) ≡ more = stored_here m (Mail j me w) more in
         let posted_else : (i x y : ℕ) → (i ≡ me → x ≡ k → y ≢ j) → posted now (after c) i x y ≡ posted m stocks i x y =
         λ i x y apart. dite (ℕ_discrete i me)
         (λ mine. dite (ℕ_discrete y j)
-        (λ same. (λ t. bit_at (now (Mail (same t) (mine t))) x) ∙ (ap (λ (w : ℕ). bit_at w x) mail_here ∙ (joined_else mail k x (λ e. apart mine e same) ∙ (λ t. bit_at (m (Mail (sym same t) (sym mine t))) x))))
-        (λ other. ap (λ (w : ℕ). bit_at w x) (mail_else m j me y i (bit_or mail (2 ^ k)) (λ _. other))))
-        (λ other. ap (λ (w : ℕ). bit_at w x) (mail_else m j me y i (bit_or mail (2 ^ k)) (λ e. absurd (other e)))) in
+        (λ same. dite (ℕ_discrete (x / 64) w)
+        (λ word. (λ t. bit_at (now (Mail (same t) (mine t) (word t))) (x % 64)) ∙ (ap (λ (v : ℕ). bit_at v (x % 64)) mail_here ∙ (joined_else mail bit (x % 64) (λ e. apart mine (same_buffer x k word e) same) ∙ (λ t. bit_at (m (Mail (sym same t) (sym mine t) (sym word t))) (x % 64)))))
+        (λ other. ap (λ (v : ℕ). bit_at v (x % 64)) (mail_else m j me w y i (x / 64) more (λ _ _. other))))
+        (λ other. ap (λ (v : ℕ). bit_at v (x % 64)) (mail_else m j me w y i (x / 64) more (λ _ e. absurd (other e)))))
+        (λ other. ap (λ (v : ℕ). bit_at v (x % 64)) (mail_else m j me w y i (x / 64) more (λ e. absurd (other e)))) in
         let before : to_be_posted m stocks me k j ≡ 1 = ap (λ (d : Buffer). bit_at d.to_post j) was ∙ on in
         let one = to_be_posted_due m stocks n b h me k lme lk j lj before in
         let due_moved : due now (after c) me k j ≡ due m stocks me k j =
         due_is now (after c) me k j
-        ∙ ((λ t. (ap (λ (d : Buffer). bit_at d.to_post j) (now_is now c) ∙ flipped_here old.to_post j on) t + (ap (λ (w : ℕ). bit_at w k) mail_here ∙ joined_here mail k) t + (holding_same now c me k j ∙ one.2) t) ∙ sym one.0) in
+        ∙ ((λ t. (ap (λ (d : Buffer). bit_at d.to_post j) (now_is now c) ∙ flipped_here old.to_post j on) t + (ap (λ (v : ℕ). bit_at v bit) mail_here ∙ joined_here mail bit) t + (holding_same now c me k j ∙ one.2) t) ∙ sym one.0) in
         let same : (y : ℕ) → y < n → due now (after c) me k y ≡ due m stocks me k y =
         λ y ly. dite (ℕ_discrete y j)
         (λ e. subst (λ (z : ℕ). due now (after c) me k z ≡ due m stocks me k z) (sym e) due_moved)
         (λ other. due_same m now stocks (after c) n me k y
         (ap (λ (d : Buffer). bit_at d.to_post y) (now_is now c) ∙ (flipped_else old.to_post j y other ∙ ap (λ (d : Buffer). bit_at d.to_post y) (sym was)))
         (posted_else me k y (λ _ _. other)) (holding_same now c me k y)) in
+        let narrow_here : (x : ℕ) → bit_at (now (Mail j me w)) x ≡ 1 → (x < 64) × (64 * w + x < b) =
+        λ x is. dite (ℕ_discrete x bit)
+        (λ e. let whole = whole_buffer k in (omega arith, omega arith))
+        (λ other. h.narrow j me w x lj lme (sym (joined_else mail bit x other) ∙ (ap (λ (v : ℕ). bit_at v x) (sym mail_here) ∙ is))) in
+        let narrow_else : (y i v x : ℕ) → y < n → i < n → (i ≡ me → y ≡ j → v ≢ w) → bit_at (now (Mail y i v)) x ≡ 1 → (x < 64) × (64 * v + x < b) =
+        λ y i v x ly li apart is. h.narrow y i v x ly li (ap (λ (z : ℕ). bit_at z x) (sym (mail_else m j me w y i v more apart)) ∙ is) in
         from_here now c (fits_as_before m now stocks (after c) n me k lme fits_here refl same
         (λ e. fits_here.free (ap (λ (d : Buffer). d.free) was ∙ (sym (ap (λ (d : Buffer). d.free) (now_is now c)) ∙ e)))
         (content_kept now c refl refl (λ p. refl)))
         (λ i x apart. refl) (λ i x p apart. refl) (λ i x y apart. posted_else i x y (λ a e. absurd (apart a e)))
-        (λ y i ly li. dite (ℕ_discrete i me)
+        (λ y i v x ly li. dite (ℕ_discrete i me)
         (λ mine. dite (ℕ_discrete y j)
-        (λ e. subst (λ (z : ℕ × ℕ). now (Mail z.0 z.1) < 2 ^ b) (λ t. (sym e t, sym mine t)) (subst (λ (z : ℕ). z < 2 ^ b) (sym mail_here) (or_lt b mail (2 ^ k) (h.narrow j me lj lme) (pow-lt lk))))
-        (λ other. subst (λ (z : ℕ). z < 2 ^ b) (sym (mail_else m j me y i (bit_or mail (2 ^ k)) (λ _. other))) (h.narrow y i ly li)))
-        (λ other. subst (λ (z : ℕ). z < 2 ^ b) (sym (mail_else m j me y i (bit_or mail (2 ^ k)) (λ e. absurd (other e)))) (h.narrow y i ly li)))
+        (λ e. dite (ℕ_discrete v w)
+        (λ word. subst (λ (z : ℕ × ℕ × ℕ). bit_at (now (Mail z.0 z.1 z.2)) x ≡ 1 → (x < 64) × (64 * z.2 + x < b)) (λ t. (sym e t, sym mine t, sym word t)) (narrow_here x))
+        (λ other. narrow_else y i v x ly li (λ _ _. other)))
+        (λ other. narrow_else y i v x ly li (λ _ a. absurd (other a))))
+        (λ other. narrow_else y i v x ly li (λ a. absurd (other a))))

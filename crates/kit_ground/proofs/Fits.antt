@@ -1,6 +1,7 @@
 -- The rule of the sets, buffer by buffer.
-use Rattle.std.proofs.Common.{◌≡◌, ◌≢◌, ℕ, ◌+◌, ◌^◌, ◌<◌, ◌≤◌, true, List, length, refl, sym, ap, ◌∙◌, subst, arith, length-set}
+use Rattle.std.proofs.Common.{◌≡◌, ◌≢◌, ℕ, ◌+◌, ◌*◌, ◌<◌, ◌≤◌, true, List, length, refl, sym, ap, ◌∙◌, subst, arith, length-set}
 use Rattle.std.specs.Prelude.{slice_set}
+use Rattle.std.specs.Int.{bit_at}
 use mathlib.Core.Logic.{dite}
 use native.Mathlib.Decide.{ℕ_discrete}
 use Rattle.kit_ground.specs.declared.address.Address.TheVariants.{Mail, Count, Part}
@@ -15,6 +16,10 @@ use Rattle.kit_ground.proofs.Sums.{sum_same}
 pub due_is : (m : Memory) (stocks : List Stock) (i k j : ℕ) → due m stocks i k j ≡ to_be_posted m stocks i k j + posted m stocks i k j + holding m stocks i k j
 unfolding due
 due_is m stocks i k j = refl
+
+-- each bit in the mail is of a buffer that there is
+abbrev pub Narrow : Memory → ℕ → ℕ → Type 0
+Narrow m n b = (j i w k : ℕ) → j < n → i < n → bit_at (m (Mail j i w)) k ≡ 1 → (k < 64) × (64 * w + k < b)
 
 -- what the rule says of the buffer k of i
 pub record Fits (m : Memory) (stocks : List Stock) (n i k : ℕ) : Type 0 where
@@ -47,7 +52,7 @@ module _ (m : Memory) (stocks : List Stock) (n b : ℕ) (h : Pool m stocks n b) 
   -- the rule after a step of the seat `me`
   pub pool_from_fits : (now : Memory) (me : ℕ) (q : Stock) → me < length stocks → length q.buffers ≡ b → length q.holds ≡ n
       → ((i k : ℕ) → i < n → k < b → Fits now (slice_set stocks me q) n i k)
-      → ((j i : ℕ) → j < n → i < n → now (Mail j i) < 2 ^ b)
+      → Narrow now n b
       → Pool now (slice_set stocks me q) n b
   pool_from_fits now me q inside buffers holds each narrow = record {
     seats = length-set stocks me q ∙ h.seats;

@@ -1,6 +1,5 @@
 -- The rule of the sets after a step that changes which buffers the seat holds.
-use Rattle.std.proofs.Common.{◌≡◌, ◌≢◌, ℕ, ◌+◌, ◌-◌, ◌^◌, ◌<◌, ◌≤◌, max, List, length, refl, sym, ap, ◌∙◌, subst, arith, length-set}
-use Rattle.std.proofs.lemmas.Nat.{pow_pos}
+use Rattle.std.proofs.Common.{◌≡◌, ◌≢◌, ℕ, ◌+◌, ◌-◌, ◌*◌, ◌/◌, ◌%◌, ◌^◌, ◌<◌, ◌≤◌, max, List, length, refl, sym, ap, ◌∙◌, subst, arith, length-set}
 use Rattle.std.proofs.lemmas.Nat.Bits.{bit_at-lt, bit_at-zero, bit_at_or}
 use Rattle.std.specs.Prelude.{slice_index, slice_set, bit_or, bit_xor}
 use Rattle.std.specs.Int.{bit_at}
@@ -11,10 +10,11 @@ use Rattle.kit_ground.specs.declared.place.Buffer.{Buffer}
 use Rattle.kit_ground.specs.declared.place.Stock.{Stock}
 use Rattle.kit_ground.specs.Memory.{Memory, stored}
 use Rattle.kit_ground.specs.Sets.{Pool, buffer_at, due, stock_at, to_be_posted, posted, holding}
-use Rattle.kit_ground.specs.Steps.{part_of, collected, released}
+use Rattle.kit_ground.specs.Steps.{part_of, collected, mail_mask, released}
 use Rattle.kit_ground.proofs.Bits.{flipped_else, flipped_here}
-use Rattle.kit_ground.proofs.Fits.{Fits, at_buffer, due_is, due_same, fits, fits_aside, pool_from_fits, seat_inside, buffers_long, holds_long}
+use Rattle.kit_ground.proofs.Fits.{Fits, Narrow, at_buffer, due_is, due_same, fits, fits_aside, pool_from_fits, seat_inside, buffers_long, holds_long}
 use Rattle.kit_ground.proofs.Memories.{stored_here, count_else, mail_else}
+use Rattle.kit_ground.proofs.MailWords.{mask_else, mask_here, whole_buffer}
 use Rattle.kit_ground.proofs.SetFacts.{holding_due}
 use Rattle.kit_ground.proofs.Stocks.{with_held, reheld, buffers_kept, holds_here, holds_else}
 use Rattle.kit_ground.proofs.Sums.{sum_change}
@@ -22,6 +22,9 @@ use Rattle.kit_ground.proofs.Sums.{sum_change}
 -- in one of two sets before, in the second after
 taken : (x y z : ℕ) → y < 2 → z < 2 → x + y + z ≤ 1 → x + 0 + max z y ≡ x + y + z
 taken x y z ly lz h = omega arith
+
+no_more : (x : ℕ) → max x 0 ≡ x
+no_more x = omega arith
 
 -- the seat `me` has the stock s, and changes its mask of the buffers of `from`
 module _ (m : Memory) (stocks : List Stock) (n b me : ℕ) (s : Stock) (h : Pool m stocks n b) (is : stock_at stocks me ≡ s) (lme : me < n) (from : ℕ) (lfrom : from < n) where
@@ -52,34 +55,53 @@ module _ (m : Memory) (stocks : List Stock) (n b me : ℕ) (s : Stock) (h : Pool
   held_else : (now : Memory) (v i x j : ℕ) → (i ≡ from → j ≢ me) → holding now (after v) i x j ≡ holding m stocks i x j
   held_else now v i x j apart = ap (λ (w : ℕ). bit_at w x) (holds_else stocks me s is inside from v j i (λ e a. apart a e))
 
-  from_each : (now : Memory) (v : ℕ) → ((i x : ℕ) → i < n → x < b → Fits now (after v) n i x) → ((j i : ℕ) → j < n → i < n → now (Mail j i) < 2 ^ b) → Pool now (after v) n b
+  from_each : (now : Memory) (v : ℕ) → ((i x : ℕ) → i < n → x < b → Fits now (after v) n i x) → Narrow now n b → Pool now (after v) n b
   from_each now v each narrow = pool_from_fits m stocks n b h now me (with_held from v s) inside long_buffers (length-set s.holds from v ∙ long_holds) each narrow
 
   -- ---- a collect
-  pub collects : Pool (stored m (Mail me from) 0) (slice_set stocks me (collected from (m (Mail me from)) s)) n b
-  collects =
-      let mail : ℕ = m (Mail me from) in
-      let v : ℕ = bit_or (slice_index s.holds from) mail in
-      let now : Memory = stored m (Mail me from) 0 in
-      let mail_here : now (Mail me from) ≡ 0 = stored_here m (Mail me from) 0 in
-      let due_here : (x : ℕ) → x < b → due now (after v) from x me ≡ due m stocks from x me =
-      λ x lx.
+  pub collects : (w : ℕ) → Pool (stored m (Mail me from w) 0) (slice_set stocks me (collected from w (m (Mail me from w)) s)) n b
+  collects w =
+      let mail : ℕ = m (Mail me from w) in
+      let mask : ℕ = mail_mask w mail in
+      let v : ℕ = bit_or (slice_index s.holds from) mask in
+      let now : Memory = stored m (Mail me from w) 0 in
+      let mail_here : now (Mail me from w) ≡ 0 = stored_here m (Mail me from w) 0 in
+      let narrow_mail : (c : ℕ) → bit_at mail c ≡ 1 → c < 64 = λ c on. (h.narrow me from w c lme lfrom on).0 in
+      let held_now : (x : ℕ) → holding now (after v) from x me ≡ max (holding m stocks from x me) (bit_at mask x) =
+      λ x. held_here now v x ∙ (bit_at_or (slice_index s.holds from) mask x ∙ ap (λ (z : ℕ). max z (bit_at mask x)) (sym (held_before x))) in
+      let due_here : (x : ℕ) → x < b → x / 64 ≡ w → due now (after v) from x me ≡ due m stocks from x me =
+      λ x lx word.
       let once : to_be_posted m stocks from x me + posted m stocks from x me + holding m stocks from x me ≤ 1 = subst (λ (d : ℕ). d ≤ 1) (due_is m stocks from x me) (h.once from x me lfrom lx lme) in
+      let none : posted now (after v) from x me ≡ 0 = (λ t. bit_at (now (Mail me from (word t))) (x % 64)) ∙ (ap (λ (z : ℕ). bit_at z (x % 64)) mail_here ∙ bit_at-zero (x % 64)) in
+      let place : 64 * w + x % 64 ≡ x = ap (λ (z : ℕ). 64 * z + x % 64) (sym word) ∙ whole_buffer x in
+      let bit : bit_at mask x ≡ posted m stocks from x me = ap (bit_at mask) (sym place) ∙ (mask_here w mail (x % 64) ∙ (λ t. bit_at (m (Mail me from (sym word t))) (x % 64))) in
       due_is now (after v) from x me
-      ∙ ((λ t. to_be_posted_same now v from x me t + (ap (λ (w : ℕ). bit_at w x) mail_here ∙ bit_at-zero x) t + (held_here now v x ∙ (bit_at_or (slice_index s.holds from) mail x ∙ ap (λ (z : ℕ). max z (bit_at mail x)) (sym (held_before x)))) t)
-      ∙ (taken (to_be_posted m stocks from x me) (posted m stocks from x me) (holding m stocks from x me) (bit_at-lt mail x) (bit_at-lt (slice_index (stock_at stocks me).holds from) x) once ∙ sym (due_is m stocks from x me))) in
+      ∙ ((λ t. to_be_posted_same now v from x me t + none t + (held_now x ∙ ap (max (holding m stocks from x me)) bit) t)
+      ∙ (taken (to_be_posted m stocks from x me) (posted m stocks from x me) (holding m stocks from x me) (bit_at-lt (m (Mail me from (x / 64))) (x % 64)) (bit_at-lt (slice_index (stock_at stocks me).holds from) x) once ∙ sym (due_is m stocks from x me))) in
+      let posted_else : (i x j : ℕ) → (i ≡ from → j ≡ me → x / 64 ≢ w) → posted now (after v) i x j ≡ posted m stocks i x j =
+      λ i x j apart. ap (λ (z : ℕ). bit_at z (x % 64)) (mail_else m me from w j i (x / 64) 0 apart) in
+      let held_same : (x : ℕ) → x / 64 ≢ w → holding now (after v) from x me ≡ holding m stocks from x me =
+      λ x other. held_now x ∙ (ap (max (holding m stocks from x me)) (mask_else w mail x narrow_mail other) ∙ no_more (holding m stocks from x me)) in
       let same : (i x j : ℕ) → x < b → due now (after v) i x j ≡ due m stocks i x j =
       λ i x j lx. dite (ℕ_discrete i from)
       (λ a. dite (ℕ_discrete j me)
-      (λ e. subst (λ (z : ℕ × ℕ). due now (after v) z.0 x z.1 ≡ due m stocks z.0 x z.1) (λ t. (sym a t, sym e t)) (due_here x lx))
-      (λ other. due_same m now stocks (after v) n i x j (to_be_posted_same now v i x j) (ap (λ (w : ℕ). bit_at w x) (mail_else m me from j i 0 (λ _. other))) (held_else now v i x j (λ _. other))))
-      (λ other. due_same m now stocks (after v) n i x j (to_be_posted_same now v i x j) (ap (λ (w : ℕ). bit_at w x) (mail_else m me from j i 0 (λ a. absurd (other a)))) (held_else now v i x j (λ a. absurd (other a)))) in
+      (λ e. subst (λ (z : ℕ × ℕ). due now (after v) z.0 x z.1 ≡ due m stocks z.0 x z.1) (λ t. (sym a t, sym e t)) (dite (ℕ_discrete (x / 64) w)
+      (due_here x lx)
+      (λ other. due_same m now stocks (after v) n from x me (to_be_posted_same now v from x me) (posted_else from x me (λ _ _. other)) (held_same x other))))
+      (λ other. due_same m now stocks (after v) n i x j (to_be_posted_same now v i x j) (posted_else i x j (λ _ e. absurd (other e))) (held_else now v i x j (λ _. other))))
+      (λ other. due_same m now stocks (after v) n i x j (to_be_posted_same now v i x j) (posted_else i x j (λ a. absurd (other a))) (held_else now v i x j (λ a. absurd (other a)))) in
+      let narrow_else : (j i u x : ℕ) → j < n → i < n → (i ≡ from → j ≡ me → u ≢ w) → bit_at (now (Mail j i u)) x ≡ 1 → (x < 64) × (64 * u + x < b) =
+      λ j i u x lj li apart is. h.narrow j i u x lj li (ap (λ (z : ℕ). bit_at z x) (sym (mail_else m me from w j i u 0 apart)) ∙ is) in
+      let narrow_here : (x : ℕ) → bit_at (now (Mail me from w)) x ≡ 1 → (x < 64) × (64 * w + x < b) =
+      λ x is. let z : 0 ≡ 1 = sym (ap (λ (y : ℕ). bit_at y x) mail_here ∙ bit_at-zero x) ∙ is in absurd (omega arith) in
       from_each now v (λ i x li lx. fits_aside m now stocks (after v) n i x li (fits m stocks n b h i x li lx) refl (λ p lp. refl) (buffer_same now v i x) (λ j lj. same i x j lx))
-      (λ j i lj li. dite (ℕ_discrete i from)
+      (λ j i u x lj li. dite (ℕ_discrete i from)
       (λ a. dite (ℕ_discrete j me)
-      (λ e. subst (λ (z : ℕ × ℕ). now (Mail z.0 z.1) < 2 ^ b) (λ t. (sym e t, sym a t)) (subst (λ (z : ℕ). z < 2 ^ b) (sym mail_here) (pow_pos b)))
-      (λ other. subst (λ (z : ℕ). z < 2 ^ b) (sym (mail_else m me from j i 0 (λ _. other))) (h.narrow j i lj li)))
-      (λ other. subst (λ (z : ℕ). z < 2 ^ b) (sym (mail_else m me from j i 0 (λ a. absurd (other a)))) (h.narrow j i lj li)))
+      (λ e. dite (ℕ_discrete u w)
+      (λ word. subst (λ (z : ℕ × ℕ × ℕ). bit_at (now (Mail z.0 z.1 z.2)) x ≡ 1 → (x < 64) × (64 * z.2 + x < b)) (λ t. (sym e t, sym a t, sym word t)) (narrow_here x))
+      (λ other. narrow_else j i u x lj li (λ _ _. other)))
+      (λ other. narrow_else j i u x lj li (λ _ e. absurd (other e))))
+      (λ other. narrow_else j i u x lj li (λ a. absurd (other a))))
 
   -- ---- a release
   pub releases : (k : ℕ) → k < b → bit_at (slice_index s.holds from) k ≡ 1 → Pool (stored m (Count from k) (m (Count from k) - 1)) (slice_set stocks me (released from k s)) n b

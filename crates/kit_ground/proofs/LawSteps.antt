@@ -6,7 +6,7 @@ use Rattle.kit_ground.specs.declared.place.Deed.{Deed}
 use Rattle.kit_ground.specs.declared.place.Place.{Place}
 use Rattle.kit_ground.specs.Laws.{IsStepOn, StepsKeepBothRules, StepsKeepGuests, words_after_step}
 use Rattle.kit_ground.specs.Layout.{memory_of}
-use Rattle.kit_ground.specs.Rules.{Keeps, Rule}
+use Rattle.kit_ground.specs.Rules.{Rule}
 use Rattle.kit_ground.specs.Steps.{Allowed, acted, address_of}
 use Rattle.kit_ground.specs.Words.{RuledWords}
 use Rattle.kit_ground.proofs.WordSteps.{words_step, guests_step}

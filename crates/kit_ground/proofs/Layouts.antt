@@ -7,7 +7,7 @@ use Rattle.std.specs.Prelude.{slice_index}
 use Rattle.kit_ground.specs.declared.address.Address.{Address}
 use Rattle.kit_ground.specs.declared.address.Address.TheVariants.{Register, Stop, Mail, Count, Part}
 use Rattle.kit_ground.specs.Memory.{stored, same_address}
-use Rattle.kit_ground.specs.Layout.{size_of, is_there, index_of, memory_of}
+use Rattle.kit_ground.specs.Layout.{size_of, is_there, index_of, mail_words, memory_of}
 use Rattle.kit_ground.specs.Rules.{blank}
 use Rattle.kit_ground.proofs.Memories.{same_tells, same_here}
 
@@ -30,22 +30,24 @@ same_place a c x y w lc ly e =
 abbrev from : ℕ → ℕ → Address → ℕ
 from n b (Register r) = 0
 from n b Stop = 13 * n
-from n b (Mail j i) = 13 * n + 1
-from n b (Count i k) = 13 * n + 1 + n * n
-from n b (Part i k p) = 13 * n + 1 + n * n + b * n
+from n b (Mail j i w) = 13 * n + 1
+from n b (Count i k) = 13 * n + 1 + mail_words b * (n * n)
+from n b (Part i k p) = 13 * n + 1 + mail_words b * (n * n) + b * n
 
 abbrev up_to : ℕ → ℕ → Address → ℕ
 up_to n b (Register r) = 13 * n
 up_to n b Stop = 13 * n + 1
-up_to n b (Mail j i) = 13 * n + 1 + n * n
-up_to n b (Count i k) = 13 * n + 1 + n * n + b * n
-up_to n b (Part i k p) = 13 * n + 1 + n * n + b * n + b * n * 2
+up_to n b (Mail j i w) = 13 * n + 1 + mail_words b * (n * n)
+up_to n b (Count i k) = 13 * n + 1 + mail_words b * (n * n) + b * n
+up_to n b (Part i k p) = 13 * n + 1 + mail_words b * (n * n) + b * n + b * n * 2
 
 between : (n b : ℕ) (a : Address) → is_there n b a ≡ true → (from n b a ≤ index_of n b a) × (index_of n b a < up_to n b a)
 unfolding index_of
 between n b (Register r) e = let t = both_below r.owner n r.slot 13 e in (omega arith, omega arith)
 between n b Stop e = (omega arith, omega arith)
-between n b (Mail j i) e = let t = both_below j n i n e in let l = mul-add-lt j n i n t.0 t.1 in (omega arith, omega arith)
+between n b (Mail j i w) e =
+    let s = and_both (nat_lt j n && nat_lt i n) (nat_lt w (mail_words b)) e in let t = both_below j n i n s.0 in let l = mul-add-lt j n i n t.0 t.1 in
+    let k = mul-add-lt (j * n + i) (mail_words b) w (n * n) l (ltb-true w (mail_words b) s.1) in (omega arith, omega arith)
 between n b (Count i k) e = let t = both_below i n k b e in let l = mul-add-lt i b k n t.0 t.1 in (omega arith, omega arith)
 between n b (Part i k p) e =
     let s = and_both (nat_lt i n && nat_lt k b) (nat_lt p 2) e in let t = both_below i n k b s.0 in let u = ltb-true p 2 s.1 in let l = mul-add-lt i b k n t.0 t.1 in (omega arith, omega arith)
@@ -54,7 +56,7 @@ between n b (Part i k p) e =
 pub on_floor : (n b : ℕ) (a : Address) → is_there n b a ≡ true → index_of n b a < size_of n b
 on_floor n b (Register r) e = let t = between n b (Register r) e in omega arith
 on_floor n b Stop e = let t = between n b Stop e in omega arith
-on_floor n b (Mail j i) e = let t = between n b (Mail j i) e in omega arith
+on_floor n b (Mail j i w) e = let t = between n b (Mail j i w) e in omega arith
 on_floor n b (Count i k) e = let t = between n b (Count i k) e in omega arith
 on_floor n b (Part i k p) e = let t = between n b (Part i k p) e in omega arith
 
@@ -65,8 +67,11 @@ one_word n b (Register r) (Register s) x y e =
     let t = both_below r.owner n r.slot 13 x in let u = both_below s.owner n s.slot 13 y in
     let owner : r.owner ≡ s.owner = omega arith in let slot : r.slot ≡ s.slot = omega arith in (λ i. Register (record { owner = owner i; slot = slot i }))
 one_word n b Stop Stop x y e = refl
-one_word n b (Mail j i) (Mail l h) x y e =
-    let t = both_below j n i n x in let u = both_below l n h n y in let same = same_place j i l h n t.1 u.1 (omega arith) in (λ z. Mail (same.0 z) (same.1 z))
+one_word n b (Mail j i w) (Mail l h v) x y e =
+    let s = and_both (nat_lt j n && nat_lt i n) (nat_lt w (mail_words b)) x in let t = both_below j n i n s.0 in
+    let r = and_both (nat_lt l n && nat_lt h n) (nat_lt v (mail_words b)) y in let u = both_below l n h n r.0 in
+    let words = same_place (j * n + i) w (l * n + h) v (mail_words b) (ltb-true w (mail_words b) s.1) (ltb-true v (mail_words b) r.1) (omega arith) in
+    let same = same_place j i l h n t.1 u.1 words.0 in (λ z. Mail (same.0 z) (same.1 z) (words.1 z))
 one_word n b (Count i k) (Count h l) x y e =
     let t = both_below i n k b x in let u = both_below h n l b y in let same = same_place i k h l b t.1 u.1 (omega arith) in (λ z. Count (same.0 z) (same.1 z))
 one_word n b (Part i k p) (Part h l q) x y e =
@@ -75,24 +80,24 @@ one_word n b (Part i k p) (Part h l q) x y e =
     let parts = same_place (i * b + k) p (h * b + l) q 2 (ltb-true p 2 s.1) (ltb-true q 2 r.1) (omega arith) in
     let same = same_place i k h l b t.1 u.1 parts.0 in (λ z. Part (same.0 z) (same.1 z) (parts.1 z))
 one_word n b (Register r) Stop x y e = let u = between n b (Register r) x in let v = between n b Stop y in absurd (omega arith)
-one_word n b (Register r) (Mail l h) x y e = let u = between n b (Register r) x in let v = between n b (Mail l h) y in absurd (omega arith)
+one_word n b (Register r) (Mail l h w) x y e = let u = between n b (Register r) x in let v = between n b (Mail l h w) y in absurd (omega arith)
 one_word n b (Register r) (Count h l) x y e = let u = between n b (Register r) x in let v = between n b (Count h l) y in absurd (omega arith)
 one_word n b (Register r) (Part h l q) x y e = let u = between n b (Register r) x in let v = between n b (Part h l q) y in absurd (omega arith)
 one_word n b Stop (Register s) x y e = let u = between n b Stop x in let v = between n b (Register s) y in absurd (omega arith)
-one_word n b Stop (Mail l h) x y e = let u = between n b Stop x in let v = between n b (Mail l h) y in absurd (omega arith)
+one_word n b Stop (Mail l h w) x y e = let u = between n b Stop x in let v = between n b (Mail l h w) y in absurd (omega arith)
 one_word n b Stop (Count h l) x y e = let u = between n b Stop x in let v = between n b (Count h l) y in absurd (omega arith)
 one_word n b Stop (Part h l q) x y e = let u = between n b Stop x in let v = between n b (Part h l q) y in absurd (omega arith)
-one_word n b (Mail j i) (Register s) x y e = let u = between n b (Mail j i) x in let v = between n b (Register s) y in absurd (omega arith)
-one_word n b (Mail j i) Stop x y e = let u = between n b (Mail j i) x in let v = between n b Stop y in absurd (omega arith)
-one_word n b (Mail j i) (Count h l) x y e = let u = between n b (Mail j i) x in let v = between n b (Count h l) y in absurd (omega arith)
-one_word n b (Mail j i) (Part h l q) x y e = let u = between n b (Mail j i) x in let v = between n b (Part h l q) y in absurd (omega arith)
+one_word n b (Mail j i w) (Register s) x y e = let u = between n b (Mail j i w) x in let v = between n b (Register s) y in absurd (omega arith)
+one_word n b (Mail j i w) Stop x y e = let u = between n b (Mail j i w) x in let v = between n b Stop y in absurd (omega arith)
+one_word n b (Mail j i w) (Count h l) x y e = let u = between n b (Mail j i w) x in let v = between n b (Count h l) y in absurd (omega arith)
+one_word n b (Mail j i w) (Part h l q) x y e = let u = between n b (Mail j i w) x in let v = between n b (Part h l q) y in absurd (omega arith)
 one_word n b (Count i k) (Register s) x y e = let u = between n b (Count i k) x in let v = between n b (Register s) y in absurd (omega arith)
 one_word n b (Count i k) Stop x y e = let u = between n b (Count i k) x in let v = between n b Stop y in absurd (omega arith)
-one_word n b (Count i k) (Mail l h) x y e = let u = between n b (Count i k) x in let v = between n b (Mail l h) y in absurd (omega arith)
+one_word n b (Count i k) (Mail l h w) x y e = let u = between n b (Count i k) x in let v = between n b (Mail l h w) y in absurd (omega arith)
 one_word n b (Count i k) (Part h l q) x y e = let u = between n b (Count i k) x in let v = between n b (Part h l q) y in absurd (omega arith)
 one_word n b (Part i k p) (Register s) x y e = let u = between n b (Part i k p) x in let v = between n b (Register s) y in absurd (omega arith)
 one_word n b (Part i k p) Stop x y e = let u = between n b (Part i k p) x in let v = between n b Stop y in absurd (omega arith)
-one_word n b (Part i k p) (Mail l h) x y e = let u = between n b (Part i k p) x in let v = between n b (Mail l h) y in absurd (omega arith)
+one_word n b (Part i k p) (Mail l h w) x y e = let u = between n b (Part i k p) x in let v = between n b (Mail l h w) y in absurd (omega arith)
 one_word n b (Part i k p) (Count h l) x y e = let u = between n b (Part i k p) x in let v = between n b (Count h l) y in absurd (omega arith)
 
 either_way : (t : Bool) → (t ≡ true) ⊎ (t ≡ false)

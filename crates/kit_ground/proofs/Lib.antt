@@ -3,6 +3,7 @@ pub mod Ones
 pub mod Bits
 pub mod Memories
 pub mod Layouts
+pub mod MailWords
 pub mod Lists
 pub mod Stocks
 pub mod Fits

@@ -15,7 +15,10 @@ same_tells (Register r) (Register c) e =
     let t = both (r.owner == c.owner) (r.slot == c.slot) e in
     λ k. Register (record { owner = eqb-true r.owner c.owner t.0 k; slot = eqb-true r.slot c.slot t.1 k })
 same_tells Stop Stop e = refl
-same_tells (Mail j i) (Mail l h) e = let t = both (j == l) (i == h) e in λ k. Mail (eqb-true j l t.0 k) (eqb-true i h t.1 k)
+same_tells (Mail j i w) (Mail l h v) e =
+    let t = both (j == l && i == h) (w == v) e in
+    let s = both (j == l) (i == h) t.0 in
+    λ z. Mail (eqb-true j l s.0 z) (eqb-true i h s.1 z) (eqb-true w v t.1 z)
 same_tells (Count i k) (Count h l) e = let t = both (i == h) (k == l) e in λ z. Count (eqb-true i h t.0 z) (eqb-true k l t.1 z)
 same_tells (Part i k p) (Part h l q) e =
     let t = both (i == h && k == l) (p == q) e in
@@ -29,7 +32,7 @@ equal i = eq-eqb i i refl
 pub same_here : (a : Address) → same_address a a ≡ true
 same_here (Register r) = λ z. equal r.owner z && equal r.slot z
 same_here Stop = refl
-same_here (Mail j i) = λ z. equal j z && equal i z
+same_here (Mail j i w) = λ z. equal j z && equal i z && equal w z
 same_here (Count i k) = λ z. equal i z && equal k z
 same_here (Part i k p) = λ z. equal i z && equal k z && equal p z
 
@@ -57,18 +60,19 @@ stored_same m a = λ k x. same_by m a x (same_address x a) (same_tells x a) k
 owner_of : Address → ℕ
 owner_of (Register r) = r.owner
 owner_of Stop = 0
-owner_of (Mail j i) = i
+owner_of (Mail j i w) = i
 owner_of (Count i k) = i
 owner_of (Part i k p) = i
 
 second_of : Address → ℕ
 second_of (Register r) = r.slot
 second_of Stop = 0
-second_of (Mail j i) = j
+second_of (Mail j i w) = j
 second_of (Count i k) = k
 second_of (Part i k p) = k
 
 third_of : Address → ℕ
+third_of (Mail j i w) = w
 third_of (Part i k p) = p
 third_of _ = 0
 
@@ -77,9 +81,9 @@ module _ (m : Memory) where
   unfolding owner_of second_of
   register_else r c v apart = stored_else m (Register r) (Register c) v (λ e. apart (ap owner_of e) (ap second_of e))
 
-  pub mail_else : (j i y x v : ℕ) → (x ≡ i → y ≢ j) → stored m (Mail j i) v (Mail y x) ≡ m (Mail y x)
-  unfolding owner_of second_of
-  mail_else j i y x v apart = stored_else m (Mail j i) (Mail y x) v (λ e. apart (ap owner_of e) (ap second_of e))
+  pub mail_else : (j i w y x z v : ℕ) → (x ≡ i → y ≡ j → z ≢ w) → stored m (Mail j i w) v (Mail y x z) ≡ m (Mail y x z)
+  unfolding owner_of second_of third_of
+  mail_else j i w y x z v apart = stored_else m (Mail j i w) (Mail y x z) v (λ e. apart (ap owner_of e) (ap second_of e) (ap third_of e))
 
   pub count_else : (i k x y v : ℕ) → (x ≡ i → y ≢ k) → stored m (Count i k) v (Count x y) ≡ m (Count x y)
   unfolding owner_of second_of

@@ -8,9 +8,10 @@ use Rattle.kit_ground.specs.declared.address.Reg.{Reg}
 use Rattle.kit_ground.specs.declared.place.Deed.{Deed}
 use Rattle.kit_ground.specs.declared.place.Deed.TheVariants.{Looked, Published, Stopped, SawFree, Collected}
 use Rattle.kit_ground.specs.declared.place.Own.{Own}
+use Rattle.kit_ground.specs.Layout.{mail_words}
 use Rattle.kit_ground.specs.Memory.{Memory, stored}
 use Rattle.kit_ground.specs.Rules.{OwnFits}
-use Rattle.kit_ground.specs.Steps.{Allowed, address_of, becomes, own_after, reg_index}
+use Rattle.kit_ground.specs.Steps.{Allowed, address_of, becomes, mail_index, own_after, reg_index}
 use Rattle.kit_ground.proofs.Memories.{register_else, stored_here, stored_same}
 
 -- the memory after the step
@@ -26,7 +27,7 @@ length-counts_after (SawFree k free) o = length-set o.counts k _
 length-counts_after _ o = refl
 
 length-mail_after : (deed : Deed) (o : Own) → length (own_after deed o).mail ≡ length o.mail
-length-mail_after (Collected i mail) o = length-set o.mail i _
+length-mail_after (Collected i w mail) o = length-set o.mail (mail_index (mail_words o.buffers) i w) _
 length-mail_after _ o = refl
 
 length-shown_after : (deed : Deed) (o : Own) → length (own_after deed o).shown ≡ length o.shown
@@ -34,7 +35,7 @@ length-shown_after (Published r word) o = length-set o.shown r.slot word
 length-shown_after _ o = refl
 
 length-collects_after : (deed : Deed) (o : Own) → length (own_after deed o).collects ≡ length o.collects
-length-collects_after (Collected i mail) o = length-set o.collects i _
+length-collects_after (Collected i w mail) o = length-set o.collects (mail_index (mail_words o.buffers) i w) _
 length-collects_after _ o = refl
 
 -- a register of another federate is as before

@@ -1,5 +1,5 @@
 -- What the floor's rule tells of one federate's place.
-use Rattle.std.proofs.Common.{◌≡◌, ℕ, ◌<◌, true, List, length, map, sym, ap, ◌∙◌}
+use Rattle.std.proofs.Common.{◌≡◌, ℕ, ◌+◌, ◌*◌, ◌<◌, true, List, length, map, sym, ap, ◌∙◌}
 use Rattle.std.specs.Prelude.{slice_index}
 use Rattle.std.specs.Int.{bit_at}
 use mathlib.Core.Option.{some}
@@ -43,6 +43,6 @@ module _ {V : Type 0} (b : ℕ) (m : Memory) (places : List (Place V)) (h : Floo
     pub held_counted : k < b → bit_at (slice_index p.own.stock.holds i) k ≡ 1 → 0 < m (Count i k)
     held_counted lk held = count_above m (map stock_of places) (length places) b h.pool i k li lk j inside (held_due lk held)
 
-    -- mail is of buffers that there are
-    pub mailed_within : bit_at (m (Mail j i)) k ≡ 1 → k < b
-    mailed_within = mail_within m (map stock_of places) (length places) b h.pool j i k inside li
+  -- mail is of buffers that there are
+  pub mailed_within : (i w c : ℕ) → i < length places → bit_at (m (Mail j i w)) c ≡ 1 → (c < 64) × (64 * w + c < b)
+  mailed_within i w c li = mail_within m (map stock_of places) (length places) b h.pool j i w c inside li

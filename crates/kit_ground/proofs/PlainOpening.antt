@@ -8,7 +8,7 @@ use Rattle.kit_ground.specs.Floors.{Ruled, memory, opened}
 use Rattle.kit_ground.proofs.Layouts.{memory_blank}
 use Rattle.kit_ground.proofs.Starts.{floored_at_first, length_places_from}
 
-pub ruled_opened : {O V : Type 0} (rule : Rule V) (first : O → ℕ → V) (about : O) (n b : ℕ) → 1 ≤ n → n ≤ 16 → b ≤ 64
+pub ruled_opened : {O V : Type 0} (rule : Rule V) (first : O → ℕ → V) (about : O) (n b : ℕ) → 1 ≤ n → n ≤ 16 → b ≤ 1024
     → rule.holds blank (places_at_first (first about) n b) → Ruled rule (opened first about n b)
 ruled_opened rule first about n b some few small h =
     let places = places_at_first (first about) n b in

@@ -1,16 +1,14 @@
 -- What the rule of the sets tells.
-use Rattle.std.proofs.Common.{Bool, true, false, ◌≡◌, ℕ, ◌+◌, ◌-◌, ◌%◌, ◌^◌, ◌<◌, ◌≤◌, List, refl, sym, ◌∙◌, subst, arith}
+use Rattle.std.proofs.Common.{Bool, true, false, ◌≡◌, ℕ, ◌+◌, ◌-◌, ◌*◌, ◌%◌, ◌^◌, ◌<◌, ◌≤◌, List, refl, sym, ◌∙◌, subst, arith}
 use Rattle.std.proofs.lemmas.Nat.{ones-le}
-use Rattle.std.proofs.lemmas.Nat.Bits.{bit_at_above}
 use Rattle.std.specs.Int.{bit_at}
 use Rattle.std.specs.Int.Count.{ones}
-use Rattle.std.proofs.lemmas.Bool.{cases_lt}
-use mathlib.Core.Logic.{⊎_elim}
 use Rattle.kit_ground.specs.declared.address.Address.TheVariants.{Mail, Count}
 use Rattle.kit_ground.specs.declared.place.Stock.{Stock}
 use Rattle.kit_ground.specs.Memory.{Memory}
 use Rattle.kit_ground.specs.Sets.{Pool, buffer_at, due, to_be_posted, posted, holding, sum_to}
 use Rattle.kit_ground.proofs.Fits.{due_is}
+use Rattle.kit_ground.proofs.MailWords.{bit_of, word_of}
 use Rattle.kit_ground.proofs.Sums.{sum_none, sum_at_most, sum_has}
 
 -- one of three parts of a number that is at most 1
@@ -86,9 +84,12 @@ module _ (m : Memory) (stocks : List Stock) (n b : ℕ) (h : Pool m stocks n b) 
     pub release_fits : n ≤ 16 → (j : ℕ) → j < n → due m stocks i k j ≡ 1 → (m (Count i k) + (2 ^ 64 - 1)) % 2 ^ 64 ≡ m (Count i k) - 1
     release_fits few j lj one = let a = count_above j lj one in let most = count_small in omega arith
 
-  -- mail is of buffers that there are, and each was due
-  pub mail_within : (j i k : ℕ) → j < n → i < n → bit_at (m (Mail j i)) k ≡ 1 → k < b
-  mail_within j i k lj li on = ⊎_elim (λ (lt : k < b). lt) (λ (le : b ≤ k). let z = bit_at_above (m (Mail j i)) b k (h.narrow j i lj li) le in absurd (omega arith)) (cases_lt k b)
+  -- each bit of a mail word is of a buffer that there is
+  pub mail_within : (j i w c : ℕ) → j < n → i < n → bit_at (m (Mail j i w)) c ≡ 1 → (c < 64) × (64 * w + c < b)
+  mail_within j i w c lj li on = h.narrow j i w c lj li on
 
-  pub mail_due : (j i k : ℕ) → j < n → i < n → bit_at (m (Mail j i)) k ≡ 1 → due m stocks i k j ≡ 1
-  mail_due j i k lj li on = (posted_due i k li (mail_within j i k lj li on) j lj on).0
+  -- and it was due
+  pub mail_due : (j i w c : ℕ) → j < n → i < n → bit_at (m (Mail j i w)) c ≡ 1 → due m stocks i (64 * w + c) j ≡ 1
+  mail_due j i w c lj li on =
+      let l = h.narrow j i w c lj li on in
+      (posted_due i (64 * w + c) li l.1 j lj ((λ t. bit_at (m (Mail j i (word_of w c l.0 t))) (bit_of w c l.0 t)) ∙ on)).0

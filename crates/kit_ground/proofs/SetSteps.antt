@@ -87,9 +87,9 @@ module _ (m : Memory) (stocks : List Stock) (o : Own) (few : o.federates ≤ 16)
       subst (λ (v : ℕ). Pool (stored m (Count o.number k) v) (slice_set stocks o.number (stock_after (Charged k mask) o.stock)) o.federates o.buffers) (sym value)
       (charges m stocks o.federates o.buffers o.number o.stock h is inside k a.0 mask free a.2.1 a.2.2)
   step (PostedTo k j) a = posts m stocks o.federates o.buffers o.number o.stock h is inside k a.0 j a.1 a.2
-  step (Collected i mail) a =
-      subst (λ (x : ℕ). Pool (stored m (Mail o.number i) 0) (slice_set stocks o.number (collected i x o.stock)) o.federates o.buffers) (sym a.2)
-      (collects m stocks o.federates o.buffers o.number o.stock h is inside i a.0)
+  step (Collected i w mail) a =
+      subst (λ (x : ℕ). Pool (stored m (Mail o.number i w) 0) (slice_set stocks o.number (collected i w x o.stock)) o.federates o.buffers) (sym a.3)
+      (collects m stocks o.federates o.buffers o.number o.stock h is inside i a.0 w)
   step (ReadPart i k p word) a = unchanged (Part i k p)
   step (Released i k) a =
       let held = ap (λ (s : Stock). bit_at (slice_index s.holds i) k) is ∙ a.2 in
@@ -98,7 +98,7 @@ module _ (m : Memory) (stocks : List Stock) (o : Own) (few : o.federates ≤ 16)
       subst (λ (v : ℕ). Pool (stored m (Count i k) v) (slice_set stocks o.number (stock_after (Released i k) o.stock)) o.federates o.buffers) (sym value)
       (releases m stocks o.federates o.buffers o.number o.stock h is inside i a.0 k a.1 a.2)
 
-pub pool_after : (m : Memory) (stocks : List Stock) (n b me : ℕ) (o : Own) → n ≤ 16 → b ≤ 64 → Pool m stocks n b → Mine stocks n b me o → (deed : Deed)
+pub pool_after : (m : Memory) (stocks : List Stock) (n b me : ℕ) (o : Own) → n ≤ 16 → b ≤ 1024 → Pool m stocks n b → Mine stocks n b me o → (deed : Deed)
     → Allowed o deed (m (address_of o deed))
     → Pool (stored m (address_of o deed) (becomes deed (m (address_of o deed)))) (slice_set stocks me (stock_after deed o.stock)) n b
 pool_after m stocks n b me o few small h mine deed allowed =

@@ -1,7 +1,6 @@
 -- The floor's rule holds at the opening.
-use Rattle.std.proofs.Common.{◌≡◌, ℕ, zero, suc, ◌+◌, ◌*◌, ◌<◌, ◌≤◌, List, length, map, replicate, refl, sym, ap, ◌∙◌, subst, arith}
+use Rattle.std.proofs.Common.{◌≡◌, ℕ, zero, suc, ◌+◌, ◌*◌, ◌%◌, ◌<◌, ◌≤◌, List, length, map, replicate, refl, sym, ap, ◌∙◌, subst, arith}
 use Rattle.std.proofs.lemmas.List.{length-replicate, length-map}
-use Rattle.std.proofs.lemmas.Nat.{pow_pos}
 use Rattle.std.proofs.lemmas.Nat.Bits.{bit_at-zero}
 use Rattle.std.specs.Prelude.{slice_index}
 use Rattle.std.specs.Int.{bit_at}
@@ -10,6 +9,7 @@ use lib.ListN.{get_elem?}
 use Rattle.kit_ground.specs.declared.place.Buffer.{Buffer}
 use Rattle.kit_ground.specs.declared.place.Place.{Place}
 use Rattle.kit_ground.specs.declared.place.Stock.{Stock}
+use Rattle.kit_ground.specs.Layout.{mail_words}
 use Rattle.kit_ground.specs.Rules.{Floored, OwnFits, blank, own_at_first, places_at_first, places_from, stock_of}
 use Rattle.kit_ground.specs.Sets.{Pool, buffer_at, due, stock_at}
 use Rattle.kit_ground.specs.Steps.{buffer_of, part_of, untouched}
@@ -47,9 +47,9 @@ module _ {V : Type 0} (first : ℕ → V) (n b : ℕ) where
     buffers = refl;
     registers = length-replicate (13 * n) _;
     counts = length-replicate b _;
-    mail = length-replicate n _;
+    mail = length-replicate (mail_words b * n) _;
     shown = length-replicate {A = ℕ} 13 0;
-    collects = length-replicate {A = ℕ} n 0;
+    collects = length-replicate {A = ℕ} (mail_words b * n) 0;
     shows = λ s ls. sym (same_everywhere 13 s 0);
   }
 
@@ -70,7 +70,7 @@ module _ {V : Type 0} (first : ℕ → V) (n b : ℕ) where
   none_due : (i k j : ℕ) → i < n → j < n → due blank stocks i k j ≡ 0
   none_due i k j li lj =
       due_is blank stocks i k j
-      ∙ ((λ t. (ap (λ (c : Buffer). bit_at c.to_post j) (buffer_at_first i k li) ∙ bit_at-zero j) t + bit_at-zero k t
+      ∙ ((λ t. (ap (λ (c : Buffer). bit_at c.to_post j) (buffer_at_first i k li) ∙ bit_at-zero j) t + bit_at-zero (k % 64) t
       + (ap (λ (s : Stock). bit_at (slice_index s.holds i) k) (stock_from 0 n j lj) ∙ (ap (λ (w : ℕ). bit_at w k) (same_everywhere n i 0) ∙ bit_at-zero k)) t)
       ∙ omega arith)
 
@@ -83,10 +83,10 @@ module _ {V : Type 0} (first : ℕ → V) (n b : ℕ) where
     others = λ i k li lk. none_due i k i li li;
     free = λ i k li lk is. refl;
     content = λ i k p li lk lp. sym (ap (part_of p) (buffer_at_first i k li) ∙ untouched_part p);
-    narrow = λ j i lj li. pow_pos b;
+    narrow = λ j i w k lj li on. let z : 0 ≡ 1 = sym (bit_at-zero k) ∙ on in absurd (omega arith);
   }
 
-  pub floored_at_first : n ≤ 16 → b ≤ 64 → Floored b blank (places_at_first first n b)
+  pub floored_at_first : n ≤ 16 → b ≤ 1024 → Floored b blank (places_at_first first n b)
   floored_at_first few small =
       let long = length_places_from 0 n in
       let zero_small : 0 ≤ 1 = omega arith in

@@ -18,9 +18,10 @@ use Rattle.kit_ground.specs.Rules.{Rule, Floored, World, Keeps}
 use Rattle.kit_ground.specs.Words.{RuledWords}
 use Rattle.kit_ground.proofs.Layouts.{memory_set}
 use Rattle.kit_ground.proofs.Lists.{at_inside}
+use Rattle.kit_ground.proofs.MailWords.{word_there}
 use Rattle.kit_ground.proofs.FloorSteps.{floored_after}
 
-own_there : (o : Own) (deed : Deed) (old : ℕ) → o.number < o.federates → Allowed o deed old → is_there o.federates o.buffers (address_of o deed) ≡ true
+pub own_there : (o : Own) (deed : Deed) (old : ℕ) → o.number < o.federates → Allowed o deed old → is_there o.federates o.buffers (address_of o deed) ≡ true
 own_there o (Looked r word) old me h = both_true (lt-ltb _ _ h.0.0) (lt-ltb _ _ h.0.1)
 own_there o (Published r word) old me h = both_true (lt-ltb _ _ (let e = h.0 in omega arith)) (lt-ltb _ _ h.1)
 own_there o Stopped old me h = refl
@@ -28,8 +29,8 @@ own_there o (SawStop set) old me h = refl
 own_there o (SawFree k free) old me h = both_true (lt-ltb _ _ me) (lt-ltb _ _ h.0)
 own_there o (Wrote k p word) old me h = both_true (both_true (lt-ltb _ _ me) (lt-ltb _ _ h.0)) (lt-ltb _ _ h.1)
 own_there o (Charged k mask) old me h = both_true (lt-ltb _ _ me) (lt-ltb _ _ h.0)
-own_there o (PostedTo k j) old me h = both_true (lt-ltb _ _ h.1) (lt-ltb _ _ me)
-own_there o (Collected i mail) old me h = both_true (lt-ltb _ _ me) (lt-ltb _ _ h.0)
+own_there o (PostedTo k j) old me h = both_true (both_true (lt-ltb _ _ h.1) (lt-ltb _ _ me)) (lt-ltb _ _ (word_there o.buffers k h.0))
+own_there o (Collected i w mail) old me h = both_true (both_true (lt-ltb _ _ me) (lt-ltb _ _ h.0)) (lt-ltb _ _ h.2)
 own_there o (ReadPart i k p word) old me h = both_true (both_true (lt-ltb _ _ h.0) (lt-ltb _ _ h.1)) (lt-ltb _ _ h.2)
 own_there o (Released i k) old me h = both_true (lt-ltb _ _ h.0) (lt-ltb _ _ h.1)
 

@@ -1,5 +1,5 @@
 -- What a world tells of the place of the seat that makes a step in it.
-use Rattle.std.proofs.Common.{◌≡◌, ℕ, ◌<◌, ◌≤◌, List, length, sym, ◌∙◌, subst}
+use Rattle.std.proofs.Common.{◌≡◌, ℕ, ◌+◌, ◌*◌, ◌<◌, ◌≤◌, List, length, sym, ◌∙◌, subst}
 use Rattle.std.specs.Prelude.{slice_index}
 use Rattle.std.specs.Int.{bit_at}
 use Rattle.kit_ground.specs.declared.address.Address.TheVariants.{Mail, Count}
@@ -15,6 +15,9 @@ module _ {V : Type 0} (rule : Rule V) (p : Place V) (m : Memory) (places : List 
   pub few_federates : p.own.federates ≤ 16
   few_federates = subst (λ (n : ℕ). n ≤ 16) (sym fits_here.federates) w.floor.few
 
+  pub small_pools : p.own.buffers ≤ 1024
+  small_pools = w.floor.small
+
   pub buffers_long : length p.own.stock.buffers ≡ p.own.buffers
   buffers_long = buffers_wide p.own.buffers m places w.floor p.own.number p w.here
 
@@ -25,8 +28,8 @@ module _ {V : Type 0} (rule : Rule V) (p : Place V) (m : Memory) (places : List 
   there i li = subst (λ (n : ℕ). i < n) fits_here.federates li
 
   -- mail is of buffers that there are
-  pub mail_is_of_buffers : (i k : ℕ) → i < p.own.federates → bit_at (m (Mail p.own.number i)) k ≡ 1 → k < p.own.buffers
-  mail_is_of_buffers i k li = mailed_within p.own.buffers m places w.floor p.own.number p w.here i k (there i li)
+  pub mail_is_of_buffers : (i word c : ℕ) → i < p.own.federates → bit_at (m (Mail p.own.number i word)) c ≡ 1 → (c < 64) × (64 * word + c < p.own.buffers)
+  mail_is_of_buffers i word c li = mailed_within p.own.buffers m places w.floor p.own.number p w.here i word c (there i li)
 
   -- a buffer that the seat holds counts it
   pub held_is_counted : (i k : ℕ) → i < p.own.federates → k < p.own.buffers → bit_at (slice_index p.own.stock.holds i) k ≡ 1 → 0 < m (Count i k)

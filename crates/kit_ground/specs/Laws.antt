@@ -1,6 +1,5 @@
 -- Laws of the floor: where its words stand, and that every step that is allowed keeps what holds of it.
-use Rattle.std.specs.Prelude.{◌≡◌, ℕ, ◌+◌, ◌-◌, ◌%◌, ◌^◌, ◌<◌, ◌≤◌, true, List, length, map, slice_index, slice_set}
-use Rattle.std.specs.Int.Count.{ones}
+use Rattle.std.specs.Prelude.{◌≡◌, ℕ, ◌<◌, ◌≤◌, true, List, length, slice_set}
 use mathlib.Core.Option.{some}
 use lib.ListN.{get_elem?}
 use Rattle.kit_ground.specs.declared.address.Address.{Address}

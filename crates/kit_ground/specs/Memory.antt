@@ -10,7 +10,7 @@ Memory = Address → ℕ
 abbrev pub same_address : Address → Address → Bool
 same_address (Register a) (Register c) = a.owner == c.owner && a.slot == c.slot
 same_address Stop Stop = true
-same_address (Mail j i) (Mail l h) = j == l && i == h
+same_address (Mail j i w) (Mail l h v) = j == l && i == h && w == v
 same_address (Count i k) (Count h l) = i == h && k == l
 same_address (Part i k p) (Part h l q) = i == h && k == l && p == q
 same_address _ _ = false

@@ -8,6 +8,7 @@ use Rattle.kit_ground.specs.declared.place.Deed.{Deed}
 use Rattle.kit_ground.specs.declared.place.Own.{Own}
 use Rattle.kit_ground.specs.declared.place.Place.{Place}
 use Rattle.kit_ground.specs.declared.place.Stock.{Stock}
+use Rattle.kit_ground.specs.Layout.{mail_words}
 use Rattle.kit_ground.specs.Memory.{Memory, stored}
 use Rattle.kit_ground.specs.Sets.{Pool}
 use Rattle.kit_ground.specs.Steps.{acted, becomes, untouched}
@@ -19,9 +20,9 @@ pub record OwnFits (m : Memory) (n b j : ℕ) (o : Own) : Type 0 where
   pub buffers : o.buffers ≡ b
   pub registers : length o.registers ≡ 13 * n
   pub counts : length o.counts ≡ b
-  pub mail : length o.mail ≡ n
+  pub mail : length o.mail ≡ mail_words b * n
   pub shown : length o.shown ≡ 13
-  pub collects : length o.collects ≡ n
+  pub collects : length o.collects ≡ mail_words b * n
   -- its registers show what it last published
   pub shows : (s : ℕ) → s < 13 → m (Register (record { owner = j; slot = s })) ≡ slice_index o.shown s
 
@@ -38,7 +39,7 @@ module _ {V : Type 0} where
   -- the floor's own rule, of federates with b buffers each
   pub record Floored (b : ℕ) (m : Memory) (places : List (Place V)) : Type 0 where
     pub few : length places ≤ 16
-    pub small : b ≤ 64
+    pub small : b ≤ 1024
     pub each : (j : ℕ) (p : Place V) → get_elem? places j ≡ some p → OwnFits m (length places) b j p.own
     pub pool : Pool m (map stock_of places) (length places) b
     pub stop : m Stop ≤ 1
@@ -74,10 +75,10 @@ own_at_first n b k = record {
   stops = 0;
   registers = replicate (13 * n) (record { step = 0; gave = 0 });
   counts = replicate b (record { step = 0; gave = false });
-  mail = replicate n (record { step = 0; gave = 0 });
+  mail = replicate (mail_words b * n) (record { step = 0; gave = 0 });
   stop = record { step = 0; gave = false };
   shown = replicate 13 0;
-  collects = replicate n 0;
+  collects = replicate (mail_words b * n) 0;
   stock = record { buffers = replicate b untouched; holds = replicate n 0 };
 }
 

@@ -1,5 +1,5 @@
 -- The three sets of federates of each buffer: to be posted, posted, and holding. Its count is the number of those in them.
-use Rattle.std.specs.Prelude.{◌≡◌, ℕ, zero, suc, ◌+◌, ◌^◌, ◌<◌, ◌≤◌, true, List, [], length, slice_index, slice_index_or}
+use Rattle.std.specs.Prelude.{◌≡◌, ℕ, zero, suc, ◌+◌, ◌*◌, ◌/◌, ◌%◌, ◌<◌, ◌≤◌, true, List, [], length, slice_index, slice_index_or}
 use Rattle.std.specs.Int.{bit_at}
 use Rattle.kit_ground.specs.declared.address.Address.TheVariants.{Mail, Count, Part}
 use Rattle.kit_ground.specs.declared.place.Buffer.{Buffer}
@@ -26,7 +26,7 @@ module _ (m : Memory) (stocks : List Stock) where
   to_be_posted i k j = bit_at (buffer_at i k).to_post j
 
   abbrev pub posted : ℕ → ℕ → ℕ → ℕ
-  posted i k j = bit_at (m (Mail j i)) k
+  posted i k j = bit_at (m (Mail j i (k / 64))) (k % 64)
 
   abbrev pub holding : ℕ → ℕ → ℕ → ℕ
   holding i k j = bit_at (slice_index (stock_at stocks j).holds i) k
@@ -47,5 +47,5 @@ module _ (m : Memory) (stocks : List Stock) where
     pub free : (i k : ℕ) → i < n → k < b → (buffer_at i k).free ≡ true → m (Count i k) ≡ 0
     -- the content words are those that the owner last wrote
     pub content : (i k p : ℕ) → i < n → k < b → p < 2 → m (Part i k p) ≡ part_of p (buffer_at i k)
-    -- mail has a bit for each buffer, and no other
-    pub narrow : (j i : ℕ) → j < n → i < n → m (Mail j i) < 2 ^ b
+    -- each bit in the mail is of a buffer that there is
+    pub narrow : (j i w k : ℕ) → j < n → i < n → bit_at (m (Mail j i w)) k ≡ 1 → (k < 64) × (64 * w + k < b)

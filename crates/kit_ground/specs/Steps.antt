@@ -1,5 +1,5 @@
 -- The floor machine: its kinds of step, where each is allowed, which word it is on, and what it does.
-use Rattle.std.specs.Prelude.{◌≡◌, ◌≢◌, ℕ, zero, suc, ◌+◌, ◌-◌, ◌*◌, ◌%◌, ◌^◌, ◌<◌, ◌==◌, Bool, true, false, List, slice_index, slice_index_or, slice_set, bit_or, bit_xor}
+use Rattle.std.specs.Prelude.{◌≡◌, ◌≢◌, ℕ, zero, suc, ◌+◌, ◌-◌, ◌*◌, ◌/◌, ◌%◌, ◌^◌, ◌<◌, ◌==◌, Bool, true, false, List, slice_index, slice_index_or, slice_set, bit_or, bit_xor}
 use Rattle.std.specs.Int.{bit_at}
 use Rattle.std.specs.Int.Count.{ones}
 use Rattle.kit_ground.specs.declared.address.Reg.{Reg}
@@ -12,6 +12,7 @@ use Rattle.kit_ground.specs.declared.place.Glance.{Glance}
 use Rattle.kit_ground.specs.declared.place.Own.{Own}
 use Rattle.kit_ground.specs.declared.place.Place.{Place}
 use Rattle.kit_ground.specs.declared.place.Stock.{Stock}
+use Rattle.kit_ground.specs.Layout.{mail_words}
 use Rattle.kit_ground.specs.Memory.{Memory, stored}
 
 -- a register of a floor of n federates
@@ -51,9 +52,13 @@ charged mask c = record c { free = false; has_head = false; has_body = false; to
 abbrev pub posted_to : ℕ → Buffer → Buffer
 posted_to j c = record c { to_post = bit_xor c.to_post (2 ^ j) }
 
--- the buffers of i in this mask are held from now on
-abbrev pub collected : ℕ → ℕ → Stock → Stock
-collected i mail s = record s { holds = slice_set s.holds i (bit_or (slice_index s.holds i) mail) }
+-- the buffers of i in this mail word, as a mask of all its buffers
+abbrev pub mail_mask : ℕ → ℕ → ℕ
+mail_mask w mail = mail * 2 ^ (64 * w)
+
+-- the buffers of i in this mail word are held from now on
+abbrev pub collected : ℕ → ℕ → ℕ → Stock → Stock
+collected i w mail s = record s { holds = slice_set s.holds i (bit_or (slice_index s.holds i) (mail_mask w mail)) }
 
 -- the buffer k of i is held no more
 abbrev pub released : ℕ → ℕ → Stock → Stock
@@ -64,7 +69,7 @@ stock_after (SawFree k free) s = with_buffer k (seen free (buffer_of s k)) s
 stock_after (Wrote k p word) s = with_buffer k (written p word (buffer_of s k)) s
 stock_after (Charged k mask) s = with_buffer k (charged mask (buffer_of s k)) s
 stock_after (PostedTo k j) s = with_buffer k (posted_to j (buffer_of s k)) s
-stock_after (Collected i mail) s = collected i mail s
+stock_after (Collected i w mail) s = collected i w mail s
 stock_after (Released i k) s = released i k s
 stock_after _ s = s
 
@@ -77,9 +82,13 @@ abbrev pub counts_after : Deed → ℕ → List (Glance Bool) → List (Glance B
 counts_after (SawFree k free) step seen = slice_set seen k (record { step = step; gave = free })
 counts_after _ step seen = seen
 
-abbrev pub mail_after : Deed → ℕ → List (Glance ℕ) → List (Glance ℕ)
-mail_after (Collected i mail) step seen = slice_set seen i (record { step = step; gave = mail })
-mail_after _ step seen = seen
+-- where the mail word w of the federate i stands among all, where there are m for each
+abbrev pub mail_index : ℕ → ℕ → ℕ → ℕ
+mail_index m i w = i * m + w
+
+abbrev pub mail_after : Deed → ℕ → ℕ → List (Glance ℕ) → List (Glance ℕ)
+mail_after (Collected i w mail) m step seen = slice_set seen (mail_index m i w) (record { step = step; gave = mail })
+mail_after _ m step seen = seen
 
 abbrev pub stop_after : Deed → ℕ → Glance Bool → Glance Bool
 stop_after (SawStop set) step seen = record { step = step; gave = set }
@@ -89,9 +98,9 @@ abbrev pub shown_after : Deed → List ℕ → List ℕ
 shown_after (Published r word) shown = slice_set shown r.slot word
 shown_after _ shown = shown
 
-abbrev pub collects_after : Deed → List ℕ → List ℕ
-collects_after (Collected i mail) collects = slice_set collects i (slice_index collects i + 1)
-collects_after _ collects = collects
+abbrev pub collects_after : Deed → ℕ → List ℕ → List ℕ
+collects_after (Collected i w mail) m collects = slice_set collects (mail_index m i w) (slice_index collects (mail_index m i w) + 1)
+collects_after _ m collects = collects
 
 abbrev pub looks_after : Deed → ℕ → ℕ
 looks_after (Looked r word) looks = looks + 1
@@ -112,10 +121,10 @@ own_after deed o = record {
   stops = stops_after deed o.stops;
   registers = registers_after deed (o.steps + 1) o.registers;
   counts = counts_after deed (o.steps + 1) o.counts;
-  mail = mail_after deed (o.steps + 1) o.mail;
+  mail = mail_after deed (mail_words o.buffers) (o.steps + 1) o.mail;
   stop = stop_after deed (o.steps + 1) o.stop;
   shown = shown_after deed o.shown;
-  collects = collects_after deed o.collects;
+  collects = collects_after deed (mail_words o.buffers) o.collects;
   stock = stock_after deed o.stock;
 }
 
@@ -128,8 +137,8 @@ address_of o (SawStop set) = Stop
 address_of o (SawFree k free) = Count o.number k
 address_of o (Wrote k p word) = Part o.number k p
 address_of o (Charged k mask) = Count o.number k
-address_of o (PostedTo k j) = Mail j o.number
-address_of o (Collected i mail) = Mail o.number i
+address_of o (PostedTo k j) = Mail j o.number (k / 64)
+address_of o (Collected i w mail) = Mail o.number i w
 address_of o (ReadPart i k p word) = Part i k p
 address_of o (Released i k) = Count i k
 
@@ -139,8 +148,8 @@ becomes (Published r word) old = word
 becomes Stopped old = 1
 becomes (Wrote k p word) old = word
 becomes (Charged k mask) old = (old + ones mask) % 2 ^ 64
-becomes (PostedTo k j) old = bit_or old (2 ^ k)
-becomes (Collected i mail) old = 0
+becomes (PostedTo k j) old = bit_or old (2 ^ (k % 64))
+becomes (Collected i w mail) old = 0
 becomes (Released i k) old = (old + (2 ^ 64 - 1)) % 2 ^ 64
 becomes _ old = old
 
@@ -162,7 +171,7 @@ Allowed o (SawFree k free) old = (k < o.buffers) × ((buffer_of o.stock k).to_po
 Allowed o (Wrote k p word) old = (k < o.buffers) × (p < 2) × ((buffer_of o.stock k).free ≡ true)
 Allowed o (Charged k mask) old = (k < o.buffers) × IsChargeable o k × IsMask o mask
 Allowed o (PostedTo k j) old = (k < o.buffers) × (j < o.federates) × (bit_at (buffer_of o.stock k).to_post j ≡ 1)
-Allowed o (Collected i mail) old = (i < o.federates) × (i ≢ o.number) × (mail ≡ old)
+Allowed o (Collected i w mail) old = (i < o.federates) × (i ≢ o.number) × (w < mail_words o.buffers) × (mail ≡ old)
 Allowed o (ReadPart i k p word) old = (i < o.federates) × (k < o.buffers) × (p < 2) × (bit_at (slice_index o.stock.holds i) k ≡ 1) × (word ≡ old)
 Allowed o (Released i k) old = (i < o.federates) × (k < o.buffers) × (bit_at (slice_index o.stock.holds i) k ≡ 1)
 

@@ -34,12 +34,13 @@ pub trait Event<V> {
 /// shows that the client's rule holds after the step (`rule`). It is told that both rules held at
 /// the step, with the word that was found (`told`), so whatever follows from that.
 pub trait Ground {
-    ghost use Rattle.std.specs.Prelude.{◌≡◌, ◌≢◌, ℕ, ◌<◌, true, ◌==◌, slice_index};
+    ghost use Rattle.std.specs.Prelude.{◌≡◌, ◌≢◌, ℕ, ◌<◌, ◌/◌, true, ◌==◌, slice_index};
     ghost use Rattle.std.specs.Int.{bit_at};
     ghost use Rattle.kit_ground.specs.declared.address.Address.TheVariants.{Register, Stop, Mail, Count, Part};
     ghost use Rattle.kit_ground.specs.declared.place.Deed.{Deed};
     ghost use Rattle.kit_ground.specs.declared.place.Deed.TheVariants.{Looked, Published, Stopped, SawStop, SawFree, Wrote, Charged, PostedTo, Collected, ReadPart, Released};
     ghost use Rattle.kit_ground.specs.declared.place.Place.{Place};
+    ghost use Rattle.kit_ground.specs.Layout.{mail_words};
     ghost use Rattle.kit_ground.specs.Rules.{Keeps, Told};
     ghost use Rattle.kit_ground.specs.Steps.{IsReg, IsChargeable, IsMask, acted, buffer_of};
 
@@ -145,22 +146,23 @@ pub trait Ground {
         requires buffer { buffer < (place self.old).own.buffers }
         requires to { to < (place self.old).own.federates }
         requires owed { bit_at (buffer_of (place self.old).own.stock buffer).to_post to ≡ 1 }
-        requires rule { let p = place self.old in Keeps Self.Under.rule E.next p (Mail to p.own.number) (λ _. PostedTo buffer to) }
+        requires rule { let p = place self.old in Keeps Self.Under.rule E.next p (Mail to p.own.number (buffer / 64)) (λ _. PostedTo buffer to) }
         ensures came { came self.old self.new }
         ensures did { did self.old (PostedTo buffer to) self.new }
         ensures place { place self.new ≡ acted E.next (PostedTo buffer to) (place self.old) }
-        ensures told { let p = place self.old in (mail : ℕ) × Told Self.Under.rule p (Mail to p.own.number) mail };
+        ensures told { let p = place self.old in (mail : ℕ) × Told Self.Under.rule p (Mail to p.own.number (buffer / 64)) mail };
 
-    /// Takes the mail of another federate: bit `k` is for its buffer `k`. The seat holds these
-    /// buffers from now on.
-    fn collect<E: Event<<Self::Under as Protocol>::View>>(&mut self, from: u8) -> u64
+    /// Takes a mail word of another federate: bit `k` is for its buffer `64 * word + k`. The seat
+    /// holds these buffers from now on.
+    fn collect<E: Event<<Self::Under as Protocol>::View>>(&mut self, from: u8, word: u8) -> u64
         requires from { from < (place self.old).own.federates }
         requires other { from ≢ (place self.old).own.number }
-        requires rule { let p = place self.old in Keeps Self.Under.rule E.next p (Mail p.own.number from) (λ mail. Collected from mail) }
+        requires word { word < mail_words (place self.old).own.buffers }
+        requires rule { let p = place self.old in Keeps Self.Under.rule E.next p (Mail p.own.number from word) (λ mail. Collected from word mail) }
         ensures came { came self.old self.new }
-        ensures did { did self.old (Collected from result) self.new }
-        ensures place { place self.new ≡ acted E.next (Collected from result) (place self.old) }
-        ensures told { let p = place self.old in Told Self.Under.rule p (Mail p.own.number from) result };
+        ensures did { did self.old (Collected from word result) self.new }
+        ensures place { place self.new ≡ acted E.next (Collected from word result) (place self.old) }
+        ensures told { let p = place self.old in Told Self.Under.rule p (Mail p.own.number from word) result };
 
     /// Loads a content word of a buffer that the seat holds.
     fn read_part<E: Event<<Self::Under as Protocol>::View>>(

@@ -13,4 +13,4 @@ pub use bare::{Bare, Unmoved};
 pub use ground::{Event, Ground, Protocol};
 pub use laws::{readers_are_counted, steps_keep_the_rules, words_stand_apart};
 pub use place::{Buffer, Deed, Glance, Own, Place, Stock};
-pub use plain::PlainFloor;
+pub use plain::{PlainFloor, mail_bit, mail_word};

@@ -42,9 +42,10 @@ pub enum Deed {
         buffer: u16,
         to: u8,
     },
-    /// It collected the mail of this federate.
+    /// It collected this mail word of this federate.
     Collected {
         from: u8,
+        word: u8,
         mail: u64,
     },
     /// It read a content word of a buffer of this federate.
@@ -83,7 +84,7 @@ pub struct Buffer {
 }
 
 /// What a seat has in hand: its own buffers, and for each federate which of its buffers the seat is
-/// holding, as a mask.
+/// holding, as a mask with a bit for each buffer, however many there are.
 pub struct Stock {
     pub buffers: LinkedList<Buffer>,
     pub holds: LinkedList<u64>,
@@ -103,13 +104,13 @@ pub struct Own {
     pub registers: LinkedList<Glance<u64>>,
     /// The last look at the count of each own buffer: whether it was free.
     pub counts: LinkedList<Glance<bool>>,
-    /// The last collect of the mail of each federate.
+    /// The last collect of each mail word of each federate, those of one federate side by side.
     pub mail: LinkedList<Glance<u64>>,
     /// The last look at the stop word: whether it was set.
     pub stop: Glance<bool>,
     /// The word that it last published in each own register; 0 before.
     pub shown: LinkedList<u64>,
-    /// How often it has collected the mail of each federate.
+    /// How often it has collected each mail word of each federate.
     pub collects: LinkedList<u64>,
     pub stock: Stock,
 }

@@ -1,4 +1,4 @@
-ghost use Rattle.std.specs.Prelude.{◌≡◌, ◌<◌, ◌≤◌, ◌^◌, [], ◌∷◌, ◌++◌, bit_or, replicate, IfOk};
+ghost use Rattle.std.specs.Prelude.{◌≡◌, ◌<◌, ◌≤◌, ◌/◌, ◌%◌, ◌^◌, [], ◌∷◌, ◌++◌, bit_or, replicate, IfOk};
 ghost use Rattle.kit_ground.specs.Floors.{changed};
 ghost use Rattle.kit_ground.specs.Layout.{size_of};
 ghost use Rattle.kit_ground.specs.Steps.{acted};
@@ -54,7 +54,7 @@ impl<P: Protocol> PlainFloor<P> {
         opening: &P::Opening,
     ) -> Result<PlainFloor<P>, AllocError>
         requires federates { (1 ≤ federates) × (federates ≤ 16) }
-        requires buffers { buffers ≤ 64 }
+        requires buffers { buffers ≤ 1024 }
         requires rule { P.rule.holds blank (places_at_first (P.first opening.now) federates buffers) }
         ensures { IfOk result (λ f. f ≡ opened P.first opening.now federates buffers) }
     {
@@ -172,32 +172,41 @@ impl Reads<(), LinkedList<u64>> for NoSteps {
     ghost read = { λ _. [] };
 }
 
+#[tactic(auto, unfolding(crate::specs::Layout::mail_words))]
 /// The words of a new floor.
 fn zeros(alloc: Global, federates: u8, buffers: u16) -> Result<Vec<u64>, AllocError>
     requires few { federates ≤ 16 }
-    requires small { buffers ≤ 64 }
+    requires small { buffers ≤ 1024 }
     ensures { IfOk result (λ words. words.items ≡ replicate (size_of federates buffers) 0) }
 {
     let n = usize::from(federates);
     let b = usize::from(buffers);
     let mut words = Vec::new(alloc);
-    words.resize(13 * n + 1 + n * n + b * n + b * n * 2, 0)?;
+    let m = (b + 63) / 64;
+    words.resize(13 * n + 1 + m * (n * n) + b * n + b * n * 2, 0)?;
     Ok(words)
 }
 
-fn bit(buffer: u16) -> u64
-    requires { buffer < 64 }
-    ensures { result ≡ 2 ^ buffer }
+/// The bit of a buffer in its mail word.
+pub fn mail_bit(buffer: u16) -> u64
+    ensures { result ≡ 2 ^ (buffer % 64) }
 {
-    1 << buffer
+    1 << (buffer % 64)
+}
+
+/// The number of the mail word that has the bit of this buffer.
+pub fn mail_word(buffer: u16) -> u8
+    requires { buffer < 1024 }
+    ensures { result ≡ buffer / 64 }
+{
+    (buffer / 64) as u8
 }
 
 /// A mail word with the bit of this buffer.
 fn with_bit(mail: u64, buffer: u16) -> u64
-    requires { buffer < 64 }
-    ensures { result ≡ bit_or mail (2 ^ buffer) }
+    ensures { result ≡ bit_or mail (2 ^ (buffer % 64)) }
 {
-    mail | bit(buffer)
+    mail | mail_bit(buffer)
 }
 
 /// What a step is noted on.
@@ -350,19 +359,23 @@ impl<P: Protocol> Ground for PlainFloor<P> {
     fn post<E: Event<P::View>>(&mut self, buffer: u16, to: u8) {
         self.ruled();
         let from = self.me();
-        let address = Address::Mail { to, from };
+        let address = Address::Mail {
+            to,
+            from,
+            word: mail_word(buffer),
+        };
         let found = self.load(address);
         let mail = with_bit(found, buffer);
         self.step::<E>(address, found, mail, Deed::PostedTo { buffer, to });
     }
 
-    fn collect<E: Event<P::View>>(&mut self, from: u8) -> u64 {
+    fn collect<E: Event<P::View>>(&mut self, from: u8, word: u8) -> u64 {
         self.ruled();
         let to = self.me();
-        let address = Address::Mail { to, from };
-        let found = self.load(address);
-        self.step::<E>(address, found, 0, Deed::Collected { from, mail: found });
-        found
+        let address = Address::Mail { to, from, word };
+        let mail = self.load(address);
+        self.step::<E>(address, mail, 0, Deed::Collected { from, word, mail });
+        mail
     }
 
     fn read_part<E: Event<P::View>>(&mut self, from: u8, buffer: u16, part: u8) -> u64 {

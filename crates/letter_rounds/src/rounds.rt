@@ -29,7 +29,7 @@ fn pass(
     floor.ruled();
     floor.seat(to);
     floor.ruled();
-    let came = receive(floor, from);
+    let came = receive(floor, from, 0);
     floor.ruled();
     came
 }

@@ -12,9 +12,9 @@ fn passes_a_buffer_on(rt: HostRuntime) -> Result<(), Fail> {
     floor.post::<Unmoved>(0, 1);
     assert!(rt; !floor.look_free::<Unmoved>(0));
     floor.seat(1);
-    let mail = floor.collect::<Unmoved>(0);
+    let mail = floor.collect::<Unmoved>(0, 0);
     assert!(rt; mail == 1);
-    let rest = floor.collect::<Unmoved>(0);
+    let rest = floor.collect::<Unmoved>(0, 0);
     assert!(rt; rest == 0);
     assert_eq!(rt; floor.read_part::<Unmoved>(0, 0, 1), 25_769_803_777);
     floor.release::<Unmoved>(0, 0);

@@ -3,6 +3,9 @@ use Rattle.std.proofs.Math.Facts.{Fits-lt-pow}
 use Rattle.std.proofs.lemmas.Nat.Bits.{bit_at-trailing_zeros}
 use Rattle.kit_courier.proofs.letters.lowest.Goals as goal
 
+pub returns-clause-small : goal.returns-clause-small
+returns-clause-small c = let some : 0 < c.args.mail = omega (arith, c.requires) in (bit_at-trailing_zeros w64 c.args.mail some (Fits-lt-pow c.ranges.mail)).0
+
 pub returns-clause-posted : goal.returns-clause-posted
 returns-clause-posted c = let some : 0 < c.args.mail = omega (arith, c.requires) in (bit_at-trailing_zeros w64 c.args.mail some (Fits-lt-pow c.ranges.mail)).1
 

@@ -1,4 +1,4 @@
-use Rattle.std.proofs.Common.{◌<◌, ℕ, refl, sym, ap, ◌∙◌, subst}
+use Rattle.std.proofs.Common.{◌<◌, ◌+◌, ◌*◌, ℕ, refl, sym, ap, ◌∙◌, subst}
 use Rattle.std.specs.Int.{bit_at}
 use Rattle.kit_ground.specs.declared.address.Address.TheVariants.{Count, Part}
 use Rattle.kit_ground.specs.declared.place.Deed.TheVariants.{ReadPart, Released}
@@ -18,16 +18,18 @@ abbrev P : Type 0
 P = Place CourierView
 
 pub collect-mail-requires-clause-rule : goal.collect-mail-requires-clause-rule
-collect-mail-requires-clause-rule g c = collects _ _
+collect-mail-requires-clause-rule g c = collects _ _ _
 
 pub read_part-head-requires-clause-buffer : goal.read_part-head-requires-clause-buffer
 read_part-head-requires-clause-buffer g c =
     let p : P = g.G.Ground.place c.args.seat.now in
     let i : ℕ = c.args.from in
     let mail : ℕ = c.collect-mail.result in
-    let k : ℕ = c.lowest-buffer.result in
+    let w : ℕ = c.args.word in
+    let low : ℕ = c.lowest-low.result in
+    let k : ℕ = 64 * w + low in
     let t = c.collect-mail.ensures.told in
-    let within = in_buffers p i k c.requires.from c.lowest-buffer.ensures.posted t in
+    let within = in_buffers p i w low c.requires.from c.lowest-low.ensures.posted t in
     let at1 = c.collect-mail.ensures.place in
     subst (λ (q : P). k < q.own.buffers) (sym at1) within
 
@@ -36,35 +38,41 @@ read_part-head-requires-clause-held g c =
     let p : P = g.G.Ground.place c.args.seat.now in
     let i : ℕ = c.args.from in
     let mail : ℕ = c.collect-mail.result in
-    let k : ℕ = c.lowest-buffer.result in
+    let w : ℕ = c.args.word in
+    let low : ℕ = c.lowest-low.result in
+    let k : ℕ = 64 * w + low in
     let t = c.collect-mail.ensures.told in
     let wide = in_holds p i c.requires.from t in
     let at1 = c.collect-mail.ensures.place in
-    ap (λ (q : P). bit_at (held_of q i) k) at1 ∙ held p i mail k 0 0 wide c.lowest-buffer.ensures.posted
+    ap (λ (q : P). bit_at (held_of q i) k) at1 ∙ held p i w mail low 0 0 wide c.lowest-low.ensures.posted
 
 pub read_part-head-requires-clause-rule : goal.read_part-head-requires-clause-rule
 read_part-head-requires-clause-rule g c =
     let p : P = g.G.Ground.place c.args.seat.now in
     let i : ℕ = c.args.from in
     let mail : ℕ = c.collect-mail.result in
-    let k : ℕ = c.lowest-buffer.result in
+    let w : ℕ = c.args.word in
+    let low : ℕ = c.lowest-low.result in
+    let k : ℕ = 64 * w + low in
     let t = c.collect-mail.ensures.told in
     let wide = in_holds p i c.requires.from t in
-    let within = in_buffers p i k c.requires.from c.lowest-buffer.ensures.posted t in
+    let within = in_buffers p i w low c.requires.from c.lowest-low.ensures.posted t in
     let at1 = c.collect-mail.ensures.place in
-    subst (λ (q : P). Keeps courier_rule delivered q (Part i k 0) (λ word. ReadPart i k 0 word)) (sym at1) (reads_head (after_collect p i mail k 0 0) i k c.requires.from within (held p i mail k 0 0 wide c.lowest-buffer.ensures.posted))
+    subst (λ (q : P). Keeps courier_rule delivered q (Part i k 0) (λ word. ReadPart i k 0 word)) (sym at1) (reads_head (after_collect p i w mail low 0 0) i k c.requires.from within (held p i w mail low 0 0 wide c.lowest-low.ensures.posted))
 
 pub read_part-body-requires-clause-buffer : goal.read_part-body-requires-clause-buffer
 read_part-body-requires-clause-buffer g c =
     let p : P = g.G.Ground.place c.args.seat.now in
     let i : ℕ = c.args.from in
     let mail : ℕ = c.collect-mail.result in
-    let k : ℕ = c.lowest-buffer.result in
+    let w : ℕ = c.args.word in
+    let low : ℕ = c.lowest-low.result in
+    let k : ℕ = 64 * w + low in
     let t = c.collect-mail.ensures.told in
-    let within = in_buffers p i k c.requires.from c.lowest-buffer.ensures.posted t in
+    let within = in_buffers p i w low c.requires.from c.lowest-low.ensures.posted t in
     let at1 = c.collect-mail.ensures.place in
     let head : ℕ = c.read_part-head.result in
-    let at2 = stage delivered (ReadPart i k 0 head) (after_collect p i mail k 0 0) _ _ c.read_part-head.ensures.place at1 in
+    let at2 = stage delivered (ReadPart i k 0 head) (after_collect p i w mail low 0 0) _ _ c.read_part-head.ensures.place at1 in
     subst (λ (q : P). k < q.own.buffers) (sym at2) within
 
 pub read_part-body-requires-clause-held : goal.read_part-body-requires-clause-held
@@ -72,39 +80,45 @@ read_part-body-requires-clause-held g c =
     let p : P = g.G.Ground.place c.args.seat.now in
     let i : ℕ = c.args.from in
     let mail : ℕ = c.collect-mail.result in
-    let k : ℕ = c.lowest-buffer.result in
+    let w : ℕ = c.args.word in
+    let low : ℕ = c.lowest-low.result in
+    let k : ℕ = 64 * w + low in
     let t = c.collect-mail.ensures.told in
     let wide = in_holds p i c.requires.from t in
     let at1 = c.collect-mail.ensures.place in
     let head : ℕ = c.read_part-head.result in
-    let at2 = stage delivered (ReadPart i k 0 head) (after_collect p i mail k 0 0) _ _ c.read_part-head.ensures.place at1 in
-    ap (λ (q : P). bit_at (held_of q i) k) at2 ∙ held p i mail k 0 0 wide c.lowest-buffer.ensures.posted
+    let at2 = stage delivered (ReadPart i k 0 head) (after_collect p i w mail low 0 0) _ _ c.read_part-head.ensures.place at1 in
+    ap (λ (q : P). bit_at (held_of q i) k) at2 ∙ held p i w mail low 0 0 wide c.lowest-low.ensures.posted
 
 pub read_part-body-requires-clause-rule : goal.read_part-body-requires-clause-rule
 read_part-body-requires-clause-rule g c =
     let p : P = g.G.Ground.place c.args.seat.now in
     let i : ℕ = c.args.from in
     let mail : ℕ = c.collect-mail.result in
-    let k : ℕ = c.lowest-buffer.result in
+    let w : ℕ = c.args.word in
+    let low : ℕ = c.lowest-low.result in
+    let k : ℕ = 64 * w + low in
     let t = c.collect-mail.ensures.told in
     let at1 = c.collect-mail.ensures.place in
     let head : ℕ = c.read_part-head.result in
-    let at2 = stage delivered (ReadPart i k 0 head) (after_collect p i mail k 0 0) _ _ c.read_part-head.ensures.place at1 in
-    subst (λ (q : P). Keeps courier_rule delivered q (Part i k 1) (λ word. ReadPart i k 1 word)) (sym at2) (reads_body (with_head p i mail k head 0) i k head refl)
+    let at2 = stage delivered (ReadPart i k 0 head) (after_collect p i w mail low 0 0) _ _ c.read_part-head.ensures.place at1 in
+    subst (λ (q : P). Keeps courier_rule delivered q (Part i k 1) (λ word. ReadPart i k 1 word)) (sym at2) (reads_body (with_head p i w mail low head 0) i k head refl)
 
 pub release-requires-clause-buffer : goal.release-requires-clause-buffer
 release-requires-clause-buffer g c =
     let p : P = g.G.Ground.place c.args.seat.now in
     let i : ℕ = c.args.from in
     let mail : ℕ = c.collect-mail.result in
-    let k : ℕ = c.lowest-buffer.result in
+    let w : ℕ = c.args.word in
+    let low : ℕ = c.lowest-low.result in
+    let k : ℕ = 64 * w + low in
     let t = c.collect-mail.ensures.told in
-    let within = in_buffers p i k c.requires.from c.lowest-buffer.ensures.posted t in
+    let within = in_buffers p i w low c.requires.from c.lowest-low.ensures.posted t in
     let at1 = c.collect-mail.ensures.place in
     let head : ℕ = c.read_part-head.result in
-    let at2 = stage delivered (ReadPart i k 0 head) (after_collect p i mail k 0 0) _ _ c.read_part-head.ensures.place at1 in
+    let at2 = stage delivered (ReadPart i k 0 head) (after_collect p i w mail low 0 0) _ _ c.read_part-head.ensures.place at1 in
     let body : ℕ = c.read_part-body.result in
-    let at3 = stage delivered (ReadPart i k 1 body) (with_head p i mail k head body) _ _ c.read_part-body.ensures.place at2 in
+    let at3 = stage delivered (ReadPart i k 1 body) (with_head p i w mail low head body) _ _ c.read_part-body.ensures.place at2 in
     subst (λ (q : P). k < q.own.buffers) (sym at3) within
 
 pub release-requires-clause-held : goal.release-requires-clause-held
@@ -112,31 +126,35 @@ release-requires-clause-held g c =
     let p : P = g.G.Ground.place c.args.seat.now in
     let i : ℕ = c.args.from in
     let mail : ℕ = c.collect-mail.result in
-    let k : ℕ = c.lowest-buffer.result in
+    let w : ℕ = c.args.word in
+    let low : ℕ = c.lowest-low.result in
+    let k : ℕ = 64 * w + low in
     let t = c.collect-mail.ensures.told in
     let wide = in_holds p i c.requires.from t in
     let at1 = c.collect-mail.ensures.place in
     let head : ℕ = c.read_part-head.result in
-    let at2 = stage delivered (ReadPart i k 0 head) (after_collect p i mail k 0 0) _ _ c.read_part-head.ensures.place at1 in
+    let at2 = stage delivered (ReadPart i k 0 head) (after_collect p i w mail low 0 0) _ _ c.read_part-head.ensures.place at1 in
     let body : ℕ = c.read_part-body.result in
-    let at3 = stage delivered (ReadPart i k 1 body) (with_head p i mail k head body) _ _ c.read_part-body.ensures.place at2 in
-    ap (λ (q : P). bit_at (held_of q i) k) at3 ∙ held p i mail k 0 0 wide c.lowest-buffer.ensures.posted
+    let at3 = stage delivered (ReadPart i k 1 body) (with_head p i w mail low head body) _ _ c.read_part-body.ensures.place at2 in
+    ap (λ (q : P). bit_at (held_of q i) k) at3 ∙ held p i w mail low 0 0 wide c.lowest-low.ensures.posted
 
 pub release-requires-clause-rule : goal.release-requires-clause-rule
 release-requires-clause-rule g c =
     let p : P = g.G.Ground.place c.args.seat.now in
     let i : ℕ = c.args.from in
     let mail : ℕ = c.collect-mail.result in
-    let k : ℕ = c.lowest-buffer.result in
+    let w : ℕ = c.args.word in
+    let low : ℕ = c.lowest-low.result in
+    let k : ℕ = 64 * w + low in
     let t = c.collect-mail.ensures.told in
     let wide = in_holds p i c.requires.from t in
-    let within = in_buffers p i k c.requires.from c.lowest-buffer.ensures.posted t in
+    let within = in_buffers p i w low c.requires.from c.lowest-low.ensures.posted t in
     let at1 = c.collect-mail.ensures.place in
     let head : ℕ = c.read_part-head.result in
-    let at2 = stage delivered (ReadPart i k 0 head) (after_collect p i mail k 0 0) _ _ c.read_part-head.ensures.place at1 in
+    let at2 = stage delivered (ReadPart i k 0 head) (after_collect p i w mail low 0 0) _ _ c.read_part-head.ensures.place at1 in
     let body : ℕ = c.read_part-body.result in
-    let at3 = stage delivered (ReadPart i k 1 body) (with_head p i mail k head body) _ _ c.read_part-body.ensures.place at2 in
-    subst (λ (q : P). Keeps courier_rule delivered q (Count i k) (λ _. Released i k)) (sym at3) (releases (with_body p i mail k head body) i k c.requires.from within (held p i mail k 0 0 wide c.lowest-buffer.ensures.posted))
+    let at3 = stage delivered (ReadPart i k 1 body) (with_head p i w mail low head body) _ _ c.read_part-body.ensures.place at2 in
+    subst (λ (q : P). Keeps courier_rule delivered q (Count i k) (λ _. Released i k)) (sym at3) (releases (with_body p i w mail low head body) i k c.requires.from within (held p i w mail low 0 0 wide c.lowest-low.ensures.posted))
 
 pub returns-clause-came : goal.returns-clause-came
 returns-clause-came g c =
@@ -150,37 +168,41 @@ returns-then-mail-eq0-clause-collected g c =
     let mail : ℕ = c.collect-mail.result in
     let t = c.collect-mail.ensures.told in
     let at1 = c.collect-mail.ensures.place in
-    subst (HasCollected p i) (sym at1) (collects_once p i c.requires.from t mail)
+    subst (HasCollected p i c.args.word) (sym at1) (collects_once p i c.requires.from c.args.word c.requires.word t mail)
 
 pub returns-clause-collected : goal.returns-clause-collected
 returns-clause-collected g c =
     let p : P = g.G.Ground.place c.args.seat.now in
     let i : ℕ = c.args.from in
     let mail : ℕ = c.collect-mail.result in
-    let k : ℕ = c.lowest-buffer.result in
+    let w : ℕ = c.args.word in
+    let low : ℕ = c.lowest-low.result in
+    let k : ℕ = 64 * w + low in
     let t = c.collect-mail.ensures.told in
     let at1 = c.collect-mail.ensures.place in
     let head : ℕ = c.read_part-head.result in
-    let at2 = stage delivered (ReadPart i k 0 head) (after_collect p i mail k 0 0) _ _ c.read_part-head.ensures.place at1 in
+    let at2 = stage delivered (ReadPart i k 0 head) (after_collect p i w mail low 0 0) _ _ c.read_part-head.ensures.place at1 in
     let body : ℕ = c.read_part-body.result in
-    let at3 = stage delivered (ReadPart i k 1 body) (with_head p i mail k head body) _ _ c.read_part-body.ensures.place at2 in
-    let at4 = stage delivered (Released i k) (with_body p i mail k head body) _ _ c.release.ensures.place at3 in
-    subst (HasCollected p i) (sym at4) (collects_once p i c.requires.from t mail)
+    let at3 = stage delivered (ReadPart i k 1 body) (with_head p i w mail low head body) _ _ c.read_part-body.ensures.place at2 in
+    let at4 = stage delivered (Released i k) (with_body p i w mail low head body) _ _ c.release.ensures.place at3 in
+    subst (HasCollected p i c.args.word) (sym at4) (collects_once p i c.requires.from c.args.word c.requires.word t mail)
 
 pub returns-clause-letter : goal.returns-clause-letter
 returns-clause-letter g c =
     let p : P = g.G.Ground.place c.args.seat.now in
     let i : ℕ = c.args.from in
     let mail : ℕ = c.collect-mail.result in
-    let k : ℕ = c.lowest-buffer.result in
+    let w : ℕ = c.args.word in
+    let low : ℕ = c.lowest-low.result in
+    let k : ℕ = 64 * w + low in
     let t = c.collect-mail.ensures.told in
     let wide = in_holds p i c.requires.from t in
     let at1 = c.collect-mail.ensures.place in
     let head : ℕ = c.read_part-head.result in
-    let at2 = stage delivered (ReadPart i k 0 head) (after_collect p i mail k 0 0) _ _ c.read_part-head.ensures.place at1 in
+    let at2 = stage delivered (ReadPart i k 0 head) (after_collect p i w mail low 0 0) _ _ c.read_part-head.ensures.place at1 in
     let body : ℕ = c.read_part-body.result in
-    let at3 = stage delivered (ReadPart i k 1 body) (with_head p i mail k head body) _ _ c.read_part-body.ensures.place at2 in
-    let at4 = stage delivered (Released i k) (with_body p i mail k head body) _ _ c.release.ensures.place at3 in
+    let at3 = stage delivered (ReadPart i k 1 body) (with_head p i w mail low head body) _ _ c.read_part-body.ensures.place at2 in
+    let at4 = stage delivered (Released i k) (with_body p i w mail low head body) _ _ c.release.ensures.place at3 in
     let letter : Letter = record { head = head; body = body } in
     let told = subst (λ (q : P). Told courier_rule q (Part i k 1) body) at2 c.read_part-body.ensures.told in
-    subst (λ (q : P). IsReceived p i letter q) (sym at4) (arrives p i mail k head body wide c.lowest-buffer.ensures.posted (in_mail p i c.requires.from t) c.lowest-buffer.ensures.least told)
+    subst (λ (q : P). IsReceived p i w letter q) (sym at4) (arrives p i w mail low head body wide c.lowest-low.ensures.posted (in_mail p i c.requires.from w c.requires.word t) c.lowest-low.ensures.least told)

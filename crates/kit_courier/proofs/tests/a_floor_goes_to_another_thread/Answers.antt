@@ -1,6 +1,6 @@
 use denote.Param.Send.{sendable}
 use Rattle.std.proofs.Crossing.{crosses}
-use Rattle.kit_known.proofs.Crossing.{known_send, known_sync}
+use Rattle.kit_known.proofs.Crossing.{known_send}
 use Rattle.kit_courier.proofs.tests.a_floor_goes_to_another_thread.Goals as goal
 
 pub join-one-requires-send-F : goal.join-one-requires-send-F

@@ -1,4 +1,4 @@
-use Rattle.std.proofs.Common.{◌≡◌, ◌≤◌, ℕ, ap, arith}
+use Rattle.std.proofs.Common.{ap, arith}
 use Rattle.std.specs.Prelude.{slice_index}
 use Rattle.kit_ground.specs.declared.place.Place.{Place}
 use Rattle.kit_courier.specs.declared.view.CourierView.{CourierView}

@@ -1,4 +1,5 @@
 use Rattle.std.proofs.Common.{ap, sym, ◌∙◌, arith}
+use Rattle.kit_ground.proofs.MailWords.{some_words}
 use Rattle.letter_rounds.proofs.Quieting.{F, quiet_seated, quiet_after, place_number, place_federates, place_buffers, place_owed}
 use Rattle.letter_rounds.proofs.rounds.pass.Goals as goal
 
@@ -30,6 +31,11 @@ receive-came-requires-clause-other c e =
     let me = place_number _ c.ruled-3.ensures (quiet_seated _ _ _ sent c.seat-2.ensures) in
     let to = ap (λ (f : F). f.seated) c.seat-2.ensures in
     c.requires.other (e ∙ (me ∙ to))
+
+pub receive-came-requires-clause-word : goal.receive-came-requires-clause-word
+receive-came-requires-clause-word c =
+    let sent = quiet_after _ c.ruled.ensures (quiet_seated _ _ _ c.requires.quiet c.seat.ensures) _ c.ruled-2.ensures c.send.ensures.came c.send.ensures.owed in
+    let n = place_buffers _ c.ruled-3.ensures (quiet_seated _ _ _ sent c.seat-2.ensures) in some_words _ (omega (arith, n))
 
 pub returns : goal.returns
 returns c =

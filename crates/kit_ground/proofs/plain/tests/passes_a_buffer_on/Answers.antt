@@ -6,7 +6,8 @@ use Rattle.kit_ground.specs.Coming.{Came, came_on}
 use Rattle.kit_ground.specs.Floors.{Floor, place_of, opened}
 use Rattle.kit_ground.specs.declared.place.Deed.TheVariants.{Collected}
 use Rattle.kit_ground.specs.Rules.{own_at_first}
-use Rattle.kit_ground.specs.Steps.{acted, buffer_of}
+use Rattle.kit_ground.specs.Steps.{acted, buffer_of, mail_mask}
+use Rattle.kit_ground.proofs.MailWords.{some_words}
 use Rattle.kit_ground.proofs.PlainSeats.{place_else}
 use Rattle.kit_ground.specs.contracts.bare.BareProtocol.TheImpl.{first-value}
 use Rattle.kit_ground.proofs.plain.tests.passes_a_buffer_on.Goals as goal
@@ -43,6 +44,11 @@ collect-mail-requires-clause-other g c =
     let is = ap (place_of first) c.seat.ensures ∙ second _ _ _ _ _ _ _ c.in_ok-floor.ensures c.look_free.ensures.came c.write_part.ensures.came c.write_part-2.ensures.came c.charge.ensures.came c.post.ensures.came c.look_free-2.ensures.came in
     let n = (sizes _ is).0 in λ e. omega (arith, n, e)
 
+pub collect-mail-requires-clause-word : goal.collect-mail-requires-clause-word
+collect-mail-requires-clause-word g c =
+    let is = ap (place_of first) c.seat.ensures ∙ second _ _ _ _ _ _ _ c.in_ok-floor.ensures c.look_free.ensures.came c.write_part.ensures.came c.write_part-2.ensures.came c.charge.ensures.came c.post.ensures.came c.look_free-2.ensures.came in
+    let n = (sizes _ is).2 in some_words _ (omega (arith, n))
+
 pub collect-rest-requires-clause-from : goal.collect-rest-requires-clause-from
 collect-rest-requires-clause-from g c =
     let is = ap (place_of first) c.seat.ensures ∙ second _ _ _ _ _ _ _ c.in_ok-floor.ensures c.look_free.ensures.came c.write_part.ensures.came c.write_part-2.ensures.came c.charge.ensures.came c.post.ensures.came c.look_free-2.ensures.came in
@@ -52,6 +58,11 @@ pub collect-rest-requires-clause-other : goal.collect-rest-requires-clause-other
 collect-rest-requires-clause-other g c =
     let is = ap (place_of first) c.seat.ensures ∙ second _ _ _ _ _ _ _ c.in_ok-floor.ensures c.look_free.ensures.came c.write_part.ensures.came c.write_part-2.ensures.came c.charge.ensures.came c.post.ensures.came c.look_free-2.ensures.came in
     let n = (sizes _ is).0 in let a = ap (λ (x : P). x.own.number) c.collect-mail.ensures.place in λ e. omega (arith, n, a, e)
+
+pub collect-rest-requires-clause-word : goal.collect-rest-requires-clause-word
+collect-rest-requires-clause-word g c =
+    let is = ap (place_of first) c.seat.ensures ∙ second _ _ _ _ _ _ _ c.in_ok-floor.ensures c.look_free.ensures.came c.write_part.ensures.came c.write_part-2.ensures.came c.charge.ensures.came c.post.ensures.came c.look_free-2.ensures.came in
+    let n = (sizes _ is).2 in let a = ap (λ (x : P). x.own.buffers) c.collect-mail.ensures.place in some_words _ (omega (arith, n, a))
 
 pub read_part-requires-clause-from : goal.read_part-requires-clause-from
 read_part-requires-clause-from g c =
@@ -74,12 +85,12 @@ release-requires-clause-buffer g c =
     let n = (sizes _ is).2 in let a = ap (λ (x : P). x.own.buffers) c.collect-mail.ensures.place in let b = ap (λ (x : P). x.own.buffers) c.collect-rest.ensures.place in let d = ap (λ (x : P). x.own.buffers) c.read_part.ensures.place in omega (arith, n, a, b, d)
 
 -- after two collects, of which the first gave the bit of the buffer 0
-held : (p q r : P) (mail rest : ℕ) → p ≡ record { own = own_at_first 2 1 1; client = tt } → q ≡ acted (λ deed p. p.client) (Collected 0 mail) p → r ≡ acted (λ deed p. p.client) (Collected 0 rest) q → mail ≡ 1 → rest ≡ 0
+held : (p q r : P) (mail rest : ℕ) → p ≡ record { own = own_at_first 2 1 1; client = tt } → q ≡ acted (λ deed p. p.client) (Collected 0 0 mail) p → r ≡ acted (λ deed p. p.client) (Collected 0 0 rest) q → mail ≡ 1 → rest ≡ 0
     → bit_at (slice_index r.own.stock.holds 0) 0 ≡ 1
 held p q r mail rest is next last one none =
     ap (λ (x : P). bit_at (slice_index x.own.stock.holds 0) 0) last
-    ∙ (ap (λ (x : P). bit_at (slice_index (acted (λ deed p. p.client) (Collected 0 rest) x).own.stock.holds 0) 0) (next ∙ ap (λ (x : P). acted (λ deed p. p.client) (Collected 0 mail) x) is)
-    ∙ (λ i. bit_at (bit_or (bit_or 0 (one i)) (none i)) 0))
+    ∙ (ap (λ (x : P). bit_at (slice_index (acted (λ deed p. p.client) (Collected 0 0 rest) x).own.stock.holds 0) 0) (next ∙ ap (λ (x : P). acted (λ deed p. p.client) (Collected 0 0 mail) x) is)
+    ∙ (λ i. bit_at (bit_or (bit_or 0 (mail_mask 0 (one i))) (mail_mask 0 (none i))) 0))
 
 pub read_part-requires-clause-held : goal.read_part-requires-clause-held
 read_part-requires-clause-held g c =
