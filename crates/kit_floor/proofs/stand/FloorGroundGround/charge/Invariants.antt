@@ -1,0 +1,5 @@
+use Rattle.kit_pool.specs.Seating.{with_found}
+use Rattle.kit_floor.proofs.stand.FloorGroundGround.charge.Given as goal
+
+abbrev pub ghosts-add : goal.ghosts-add
+ghosts-add g a = record { deed = with_found a._about }

@@ -1,0 +1,55 @@
+use Rattle.std.proofs.Common.{◌≡◌, ◌==◌, ℕ, ◌+◌, ◌-◌, ◌*◌, ◌/◌, ◌%◌, ◌^◌, ◌<◌, ◌≤◌, refl, sym, ap, ◌∙◌, subst, arith}
+use Rattle.std.specs.Prelude.{bit_or}
+use Rattle.kit_ground.specs.declared.address.Address.TheVariants.{Register, Stop, Mail, Count, Part}
+use Rattle.kit_ground.specs.declared.place.Deed.TheVariants.{Looked, Published, Stopped, SawStop, SawFree, Wrote, Charged, PostedTo, Collected, ReadPart, Released}
+use Rattle.kit_pool.specs.Pools.{as_it_is, bare_rule, no_client}
+use Rattle.kit_pool.specs.Seating.{Plans, place_in}
+use Rattle.kit_pool.proofs.Calls.{did_as, did_at, plan_at, there_at, told_at}
+use Rattle.kit_pool.proofs.Owning.{own_numbers}
+use Rattle.kit_pool.proofs.PoolWords.{count_behind, mail_behind, part_behind}
+use Rattle.kit_floor.proofs.stand.FloorGroundGround.post.Goals as goal
+
+pub mail_word-word-requires : goal.mail_word-word-requires
+mail_word-word-requires g c =
+    let s = c.args.self.now.seat in
+    let own = own_numbers (g.P.Protocol.first c.args.self.now.floor.now.table.shared.key.opening.value) s.number s.federates s.buffers s.seat.me.0 s.own in
+    let wide = own.2 in let small = s.within.small in let below = c.requires.buffer in omega arith
+
+pub index-at-requires-clause-there : goal.index-at-requires-clause-there
+index-at-requires-clause-there g c =
+    let s = c.args.self.now.seat in
+    let first : ℕ → _ = g.P.Protocol.first c.args.self.now.floor.now.table.shared.key.opening.value in
+    let p = place_in first s.seat.me.0 in
+    let own = own_numbers first s.number s.federates s.buffers s.seat.me.0 s.own in
+    let plan : Plans g.P.Protocol.rule g.E.Event.next p (Mail c.args.to p.own.number (c.args.buffer / 64)) (λ n. bit_or n c.mail_bit-bits.result) (λ _. PostedTo c.args.buffer c.args.to) = record { address = λ n. refl; makes = λ n. ap (bit_or n) (sym c.mail_bit-bits.ensures); allowed = λ n. (c.requires.buffer, c.requires.to, c.requires.owed); keeps = c.requires.rule } in
+    there_at g.P.Protocol.rule first s.number s.federates s.buffers s.seat.me.0 s.own s.within g.E.Event.next (Mail c.args.to c.number-from.result c.mail_word-word.result) (Mail c.args.to p.own.number (c.args.buffer / 64)) (λ t. Mail c.args.to ((c.number-from.ensures ∙ sym own.0) t) (c.mail_word-word.ensures t)) (λ n. bit_or n c.mail_bit-bits.result) (λ _. PostedTo c.args.buffer c.args.to) plan _ _ c.federates.ensures c.buffers.ensures
+
+pub join_bit-requires-clause-plan : goal.join_bit-requires-clause-plan
+join_bit-requires-clause-plan g c =
+    let s = c.args.self.now.seat in
+    let first : ℕ → _ = g.P.Protocol.first c.args.self.now.floor.now.table.shared.key.opening.value in
+    let p = place_in first s.seat.me.0 in
+    let own = own_numbers first s.number s.federates s.buffers s.seat.me.0 s.own in
+    let plan : Plans g.P.Protocol.rule g.E.Event.next p (Mail c.args.to p.own.number (c.args.buffer / 64)) (λ n. bit_or n c.mail_bit-bits.result) (λ _. PostedTo c.args.buffer c.args.to) = record { address = λ n. refl; makes = λ n. ap (bit_or n) (sym c.mail_bit-bits.ensures); allowed = λ n. (c.requires.buffer, c.requires.to, c.requires.owed); keeps = c.requires.rule } in
+    plan_at g.P.Protocol.rule first s.number s.federates s.buffers s.seat.me.0 s.own s.within g.E.Event.next (Mail c.args.to c.number-from.result c.mail_word-word.result) (Mail c.args.to p.own.number (c.args.buffer / 64)) (λ t. Mail c.args.to ((c.number-from.ensures ∙ sym own.0) t) (c.mail_word-word.ensures t)) (λ n. bit_or n c.mail_bit-bits.result) (λ _. PostedTo c.args.buffer c.args.to) plan
+
+pub returns-clause-did : goal.returns-clause-did
+returns-clause-did g c =
+    let s = c.args.self.now.seat in
+    let first : ℕ → _ = g.P.Protocol.first c.args.self.now.floor.now.table.shared.key.opening.value in
+    let p = place_in first s.seat.me.0 in
+    let own = own_numbers first s.number s.federates s.buffers s.seat.me.0 s.own in
+    let plan : Plans g.P.Protocol.rule g.E.Event.next p (Mail c.args.to p.own.number (c.args.buffer / 64)) (λ n. bit_or n c.mail_bit-bits.result) (λ _. PostedTo c.args.buffer c.args.to) = record { address = λ n. refl; makes = λ n. ap (bit_or n) (sym c.mail_bit-bits.ensures); allowed = λ n. (c.requires.buffer, c.requires.to, c.requires.owed); keeps = c.requires.rule } in
+    did_at g.P.Protocol.rule first s.number s.federates s.buffers s.seat.me.0 s.own s.within g.E.Event.next (Mail c.args.to c.number-from.result c.mail_word-word.result) (Mail c.args.to p.own.number (c.args.buffer / 64)) (λ t. Mail c.args.to ((c.number-from.ensures ∙ sym own.0) t) (c.mail_word-word.ensures t)) (λ n. bit_or n c.mail_bit-bits.result) (λ _. PostedTo c.args.buffer c.args.to) plan c.join_bit.result c.join_bit.ensures.told _ (ap (place_in (g.P.Protocol.first c.args.self.now.floor.now.table.shared.key.opening.value)) c.join_bit.ensures.place)
+
+pub returns-clause-place : goal.returns-clause-place
+returns-clause-place g c = ap (place_in (g.P.Protocol.first c.args.self.now.floor.now.table.shared.key.opening.value)) c.join_bit.ensures.place
+
+pub returns-clause-told : goal.returns-clause-told
+returns-clause-told g c =
+    let s = c.args.self.now.seat in
+    let first : ℕ → _ = g.P.Protocol.first c.args.self.now.floor.now.table.shared.key.opening.value in
+    let p = place_in first s.seat.me.0 in
+    let own = own_numbers first s.number s.federates s.buffers s.seat.me.0 s.own in
+    let plan : Plans g.P.Protocol.rule g.E.Event.next p (Mail c.args.to p.own.number (c.args.buffer / 64)) (λ n. bit_or n c.mail_bit-bits.result) (λ _. PostedTo c.args.buffer c.args.to) = record { address = λ n. refl; makes = λ n. ap (bit_or n) (sym c.mail_bit-bits.ensures); allowed = λ n. (c.requires.buffer, c.requires.to, c.requires.owed); keeps = c.requires.rule } in
+    (c.join_bit.result, told_at g.P.Protocol.rule first s.number s.federates s.buffers s.seat.me.0 s.own s.within g.E.Event.next (Mail c.args.to c.number-from.result c.mail_word-word.result) (Mail c.args.to p.own.number (c.args.buffer / 64)) (λ t. Mail c.args.to ((c.number-from.ensures ∙ sym own.0) t) (c.mail_word-word.ensures t)) (λ n. bit_or n c.mail_bit-bits.result) (λ _. PostedTo c.args.buffer c.args.to) plan c.join_bit.result c.join_bit.ensures.told)

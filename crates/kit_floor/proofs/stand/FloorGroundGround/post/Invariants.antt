@@ -1,0 +1,5 @@
+use Rattle.kit_pool.specs.Seating.{with_found}
+use Rattle.kit_floor.proofs.stand.FloorGroundGround.post.Given as goal
+
+abbrev pub ghosts-join_bit : goal.ghosts-join_bit
+ghosts-join_bit g a = record { deed = with_found a._about }

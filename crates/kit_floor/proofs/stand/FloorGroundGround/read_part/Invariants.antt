@@ -1,0 +1,5 @@
+use Rattle.kit_pool.specs.Seating.{with_found}
+use Rattle.kit_floor.proofs.stand.FloorGroundGround.read_part.Given as goal
+
+abbrev pub ghosts-load : goal.ghosts-load
+ghosts-load g a = record { deed = with_found a._about }

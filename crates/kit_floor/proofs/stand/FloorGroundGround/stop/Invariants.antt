@@ -1,0 +1,5 @@
+use Rattle.kit_pool.specs.Seating.{with_found}
+use Rattle.kit_floor.proofs.stand.FloorGroundGround.stop.Given as goal
+
+abbrev pub ghosts-store : goal.ghosts-store
+ghosts-store g a = record { deed = with_found a._about }

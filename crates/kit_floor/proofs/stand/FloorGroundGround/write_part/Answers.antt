@@ -1,0 +1,49 @@
+use Rattle.std.proofs.Common.{◌≡◌, ◌==◌, ℕ, ◌+◌, ◌-◌, ◌*◌, ◌/◌, ◌%◌, ◌^◌, ◌<◌, ◌≤◌, refl, sym, ap, ◌∙◌, subst, arith}
+use Rattle.std.specs.Prelude.{bit_or}
+use Rattle.kit_ground.specs.declared.address.Address.TheVariants.{Register, Stop, Mail, Count, Part}
+use Rattle.kit_ground.specs.declared.place.Deed.TheVariants.{Looked, Published, Stopped, SawStop, SawFree, Wrote, Charged, PostedTo, Collected, ReadPart, Released}
+use Rattle.kit_pool.specs.Pools.{as_it_is, bare_rule, no_client}
+use Rattle.kit_pool.specs.Seating.{Plans, place_in}
+use Rattle.kit_pool.proofs.Calls.{did_as, did_at, plan_at, there_at, told_at}
+use Rattle.kit_pool.proofs.Owning.{own_numbers}
+use Rattle.kit_pool.proofs.PoolWords.{count_behind, mail_behind, part_behind}
+use Rattle.kit_floor.proofs.stand.FloorGroundGround.write_part.Goals as goal
+
+pub index-at-requires-clause-there : goal.index-at-requires-clause-there
+index-at-requires-clause-there g c =
+    let s = c.args.self.now.seat in
+    let first : ℕ → _ = g.P.Protocol.first c.args.self.now.floor.now.table.shared.key.opening.value in
+    let p = place_in first s.seat.me.0 in
+    let own = own_numbers first s.number s.federates s.buffers s.seat.me.0 s.own in
+    let plan : Plans g.P.Protocol.rule g.E.Event.next p (Part p.own.number c.args.buffer c.args.part) (λ _. c.args.word) (λ _. Wrote c.args.buffer c.args.part c.args.word) = record { address = λ n. refl; makes = λ n. refl; allowed = λ n. (c.requires.buffer, c.requires.part, c.requires.free); keeps = c.requires.rule } in
+    there_at g.P.Protocol.rule first s.number s.federates s.buffers s.seat.me.0 s.own s.within g.E.Event.next (Part c.number-owner.result c.args.buffer c.args.part) (Part p.own.number c.args.buffer c.args.part) (λ t. Part ((c.number-owner.ensures ∙ sym own.0) t) c.args.buffer c.args.part) (λ _. c.args.word) (λ _. Wrote c.args.buffer c.args.part c.args.word) plan _ _ c.federates.ensures c.buffers.ensures
+
+pub store-requires-clause-plan : goal.store-requires-clause-plan
+store-requires-clause-plan g c =
+    let s = c.args.self.now.seat in
+    let first : ℕ → _ = g.P.Protocol.first c.args.self.now.floor.now.table.shared.key.opening.value in
+    let p = place_in first s.seat.me.0 in
+    let own = own_numbers first s.number s.federates s.buffers s.seat.me.0 s.own in
+    let plan : Plans g.P.Protocol.rule g.E.Event.next p (Part p.own.number c.args.buffer c.args.part) (λ _. c.args.word) (λ _. Wrote c.args.buffer c.args.part c.args.word) = record { address = λ n. refl; makes = λ n. refl; allowed = λ n. (c.requires.buffer, c.requires.part, c.requires.free); keeps = c.requires.rule } in
+    plan_at g.P.Protocol.rule first s.number s.federates s.buffers s.seat.me.0 s.own s.within g.E.Event.next (Part c.number-owner.result c.args.buffer c.args.part) (Part p.own.number c.args.buffer c.args.part) (λ t. Part ((c.number-owner.ensures ∙ sym own.0) t) c.args.buffer c.args.part) (λ _. c.args.word) (λ _. Wrote c.args.buffer c.args.part c.args.word) plan
+
+pub returns-clause-did : goal.returns-clause-did
+returns-clause-did g c =
+    let s = c.args.self.now.seat in
+    let first : ℕ → _ = g.P.Protocol.first c.args.self.now.floor.now.table.shared.key.opening.value in
+    let p = place_in first s.seat.me.0 in
+    let own = own_numbers first s.number s.federates s.buffers s.seat.me.0 s.own in
+    let plan : Plans g.P.Protocol.rule g.E.Event.next p (Part p.own.number c.args.buffer c.args.part) (λ _. c.args.word) (λ _. Wrote c.args.buffer c.args.part c.args.word) = record { address = λ n. refl; makes = λ n. refl; allowed = λ n. (c.requires.buffer, c.requires.part, c.requires.free); keeps = c.requires.rule } in
+    did_as g.P.Protocol.rule first s.number s.federates s.buffers s.seat.me.0 s.own s.within g.E.Event.next (Part c.number-owner.result c.args.buffer c.args.part) (Part p.own.number c.args.buffer c.args.part) (λ t. Part ((c.number-owner.ensures ∙ sym own.0) t) c.args.buffer c.args.part) (λ _. c.args.word) (λ _. Wrote c.args.buffer c.args.part c.args.word) plan 0 c.store.ensures.told.0 refl c.store.ensures.told.1 _ (ap (place_in (g.P.Protocol.first c.args.self.now.floor.now.table.shared.key.opening.value)) c.store.ensures.place)
+
+pub returns-clause-place : goal.returns-clause-place
+returns-clause-place g c = ap (place_in (g.P.Protocol.first c.args.self.now.floor.now.table.shared.key.opening.value)) c.store.ensures.place
+
+pub returns-clause-told : goal.returns-clause-told
+returns-clause-told g c =
+    let s = c.args.self.now.seat in
+    let first : ℕ → _ = g.P.Protocol.first c.args.self.now.floor.now.table.shared.key.opening.value in
+    let p = place_in first s.seat.me.0 in
+    let own = own_numbers first s.number s.federates s.buffers s.seat.me.0 s.own in
+    let plan : Plans g.P.Protocol.rule g.E.Event.next p (Part p.own.number c.args.buffer c.args.part) (λ _. c.args.word) (λ _. Wrote c.args.buffer c.args.part c.args.word) = record { address = λ n. refl; makes = λ n. refl; allowed = λ n. (c.requires.buffer, c.requires.part, c.requires.free); keeps = c.requires.rule } in
+    (c.store.ensures.told.0, told_at g.P.Protocol.rule first s.number s.federates s.buffers s.seat.me.0 s.own s.within g.E.Event.next (Part c.number-owner.result c.args.buffer c.args.part) (Part p.own.number c.args.buffer c.args.part) (λ t. Part ((c.number-owner.ensures ∙ sym own.0) t) c.args.buffer c.args.part) (λ _. c.args.word) (λ _. Wrote c.args.buffer c.args.part c.args.word) plan c.store.ensures.told.0 c.store.ensures.told.1)

@@ -1,0 +1,10 @@
+pub mod Behind
+pub mod Holding
+pub mod SeatSteps
+pub mod Owning
+pub mod Stepping
+pub mod Splitting
+pub mod Joining
+pub mod Dealing
+pub mod PoolWords
+pub mod Calls

@@ -1,0 +1,40 @@
+use Rattle.std.proofs.Common.{◌≡◌, ◌==◌, ℕ, ◌+◌, ◌-◌, ◌*◌, ◌/◌, ◌%◌, ◌^◌, ◌<◌, ◌≤◌, refl, sym, ap, ◌∙◌, subst, arith}
+use Rattle.std.specs.Prelude.{bit_or}
+use Rattle.kit_ground.specs.declared.address.Address.TheVariants.{Register, Stop, Mail, Count, Part}
+use Rattle.kit_ground.specs.declared.place.Deed.TheVariants.{Looked, Published, Stopped, SawStop, SawFree, Wrote, Charged, PostedTo, Collected, ReadPart, Released}
+use Rattle.kit_pool.specs.Pools.{as_it_is, bare_rule, no_client}
+use Rattle.kit_pool.specs.Seating.{Plans, place_in}
+use Rattle.kit_pool.proofs.Calls.{did_as, did_at, plan_at, there_at, told_at}
+use Rattle.kit_pool.proofs.Owning.{own_numbers}
+use Rattle.kit_pool.proofs.PoolWords.{count_behind, mail_behind, part_behind}
+use Rattle.kit_pool.proofs.pool.TableSeat+Bare.charge.Goals as goal
+
+pub place_of-at-requires-clause-there : goal.place_of-at-requires-clause-there
+place_of-at-requires-clause-there c =
+    let s = c.args.self.now in
+    let first : ℕ → _ = no_client in
+    let p = place_in first s.seat.me.0 in
+    let own = own_numbers first s.number s.federates s.buffers s.seat.me.0 s.own in
+    let plan : Plans bare_rule as_it_is p (Count p.own.number c.args.buffer) (λ n. (n + c.readers-more.result) % 2 ^ 64) (λ _. Charged c.args.buffer c.args.mask) = record { address = λ n. refl; makes = λ n. ap (λ (x : ℕ). (n + x) % 2 ^ 64) (sym c.readers-more.ensures); allowed = λ n. (c.requires.buffer, c.requires.ready, c.requires.mask); keeps = λ m places w. record { client = tt; guests = λ h sees. tt } } in
+    there_at bare_rule first s.number s.federates s.buffers s.seat.me.0 s.own s.within as_it_is (Count c.number-owner.result c.args.buffer) (Count p.own.number c.args.buffer) (λ t. Count ((c.number-owner.ensures ∙ sym own.0) t) c.args.buffer) (λ n. (n + c.readers-more.result) % 2 ^ 64) (λ _. Charged c.args.buffer c.args.mask) plan _ _ refl refl
+
+pub place_of-at-requires-clause-pool : goal.place_of-at-requires-clause-pool
+place_of-at-requires-clause-pool c = count_behind _ _ _ _
+
+pub add-requires-clause-plan : goal.add-requires-clause-plan
+add-requires-clause-plan c =
+    let s = c.args.self.now in
+    let first : ℕ → _ = no_client in
+    let p = place_in first s.seat.me.0 in
+    let own = own_numbers first s.number s.federates s.buffers s.seat.me.0 s.own in
+    let plan : Plans bare_rule as_it_is p (Count p.own.number c.args.buffer) (λ n. (n + c.readers-more.result) % 2 ^ 64) (λ _. Charged c.args.buffer c.args.mask) = record { address = λ n. refl; makes = λ n. ap (λ (x : ℕ). (n + x) % 2 ^ 64) (sym c.readers-more.ensures); allowed = λ n. (c.requires.buffer, c.requires.ready, c.requires.mask); keeps = λ m places w. record { client = tt; guests = λ h sees. tt } } in
+    plan_at bare_rule first s.number s.federates s.buffers s.seat.me.0 s.own s.within as_it_is (Count c.number-owner.result c.args.buffer) (Count p.own.number c.args.buffer) (λ t. Count ((c.number-owner.ensures ∙ sym own.0) t) c.args.buffer) (λ n. (n + c.readers-more.result) % 2 ^ 64) (λ _. Charged c.args.buffer c.args.mask) plan
+
+pub returns-clause-told : goal.returns-clause-told
+returns-clause-told c =
+    let s = c.args.self.now in
+    let first : ℕ → _ = no_client in
+    let p = place_in first s.seat.me.0 in
+    let own = own_numbers first s.number s.federates s.buffers s.seat.me.0 s.own in
+    let plan : Plans bare_rule as_it_is p (Count p.own.number c.args.buffer) (λ n. (n + c.readers-more.result) % 2 ^ 64) (λ _. Charged c.args.buffer c.args.mask) = record { address = λ n. refl; makes = λ n. ap (λ (x : ℕ). (n + x) % 2 ^ 64) (sym c.readers-more.ensures); allowed = λ n. (c.requires.buffer, c.requires.ready, c.requires.mask); keeps = λ m places w. record { client = tt; guests = λ h sees. tt } } in
+    (c.add.result, told_at bare_rule first s.number s.federates s.buffers s.seat.me.0 s.own s.within as_it_is (Count c.number-owner.result c.args.buffer) (Count p.own.number c.args.buffer) (λ t. Count ((c.number-owner.ensures ∙ sym own.0) t) c.args.buffer) (λ n. (n + c.readers-more.result) % 2 ^ 64) (λ _. Charged c.args.buffer c.args.mask) plan c.add.result c.add.ensures.told)

@@ -1,0 +1,25 @@
+use Rattle.std.proofs.Common.{ℕ, List, [], ◌∷◌, sym, ap, ◌∙◌, subst, arith, length, length-append}
+use Rattle.std.proofs.lemmas.List.{length-replicate}
+use Rattle.kit_ground.specs.Layout.{size_of}
+use Rattle.kit_ground.specs.Rules.{places_at_first}
+use Rattle.kit_pool.specs.Seating.{Seated}
+use Rattle.kit_pool.proofs.Splitting.{opens}
+use Rattle.kit_pool.proofs.seat.lay.Goals as goal
+
+pub of_words-requires : goal.of_words-requires
+of_words-requires g c =
+    let rule = g.P.Protocol.rule in
+    let first = g.P.Protocol.first in
+    let n = c.args.federates in
+    let b = c.args.buffers in
+    let front = g.F.Front.front n in
+    let made = opens rule (first c.args.opening.now) n b front c.args.words.now c.requires.federates.0 c.requires.federates.1 c.requires.buffers c.requires.rule c.requires.words in
+    subst (λ o. Seated rule n b front c.args.words.now (places_at_first (first o) n b ∷ [])) (sym c.of.ensures) made
+
+pub returns-clause-sized : goal.returns-clause-sized
+returns-clause-sized g c =
+    let n = c.args.federates in
+    let b = c.args.buffers in
+    let all = ap length c.requires.words in
+    let made = c.in_ok-table.ensures in
+    record { words = omega (arith, length-append (g.F.Front.front n) c.args.words.now, all, length-replicate {A = ℕ} (size_of n b) 0, made.0); slots = made.1 }

@@ -1,0 +1,5 @@
+pub mod Seating
+pub mod Seats
+pub mod Pools
+pub mod Doing
+pub mod Laws

@@ -1,0 +1,13 @@
+//! Buffers and mail on the words of a table, and seats that step on them: one rule and one set of laws
+//! for each floor that threads share.
+#![tactic(auto)]
+
+mod laws;
+mod pool;
+mod rule;
+mod seat;
+
+pub use laws::seats_keep_the_rules;
+pub use pool::{Pool, PoolSeat, Registers};
+pub use rule::{Finds, Front, Laid, OwnFirst, Plan, SeatingRule, Stores};
+pub use seat::{SeatingTable, TableSeat, gather, lay, readers};

@@ -1,0 +1,95 @@
+//! The rule of a table whose seats are those of federates, and what its steps tell.
+use atomic_table::{Join, Play, Split, TableRule};
+use kit_ground::{Event, Place, Protocol};
+use std::collections::LinkedList;
+use std::marker::{Brand, PhantomData};
+use std::snapshot::Snapshot;
+
+/// What the table is told when it is made.
+#[derive(Drop)]
+pub struct Laid<O> {
+    pub federates: u8,
+    pub buffers: u16,
+    pub opening: Snapshot<O>,
+}
+
+/// The words that stand before the first word of the table, where it has not all words of a floor.
+/// They never change.
+pub trait Front {
+    ghost use Rattle.std.specs.Prelude.{ℕ, List};
+
+    ghost front: { ℕ → List ℕ };
+}
+
+/// The floor's own rule and the client's.
+pub struct SeatingRule<P, F> {
+    of: PhantomData<(P, F)>,
+}
+
+impl<P: Protocol, F: Front> TableRule<(), LinkedList<Place<P::View>>, Laid<P::Opening>>
+    for SeatingRule<P, F> {
+    ghost use Rattle.kit_ground.specs.Rules.{places_at_first};
+    ghost use Rattle.kit_pool.specs.Seating.{Seated};
+
+    ghost holds = { λ k s. Seated P.rule k.federates k.buffers (F.front k.federates) s.words s.views };
+
+    ghost first = { λ k. places_at_first (P.first k.opening.value) k.federates k.buffers };
+}
+
+/// What a step does, by the word that it finds. Each call picks it.
+pub trait Plan {
+    ghost use Rattle.std.specs.Prelude.{ℕ};
+    ghost use Rattle.kit_ground.specs.declared.place.Deed.{Deed};
+
+    ghost deed: { ℕ → Deed };
+}
+
+impl Plan for Brand {
+    ghost use Rattle.kit_ground.specs.declared.place.Deed.TheVariants.{Stopped};
+
+    ghost deed = { λ _. Stopped };
+}
+
+/// A step that tells the word that it found.
+pub struct Finds<P, E, D> {
+    of: PhantomData<(P, E, D)>,
+}
+
+impl<P: Protocol, E: Event<P::View>, D: Plan> Play<(), LinkedList<Place<P::View>>>
+    for Finds<P, E, D> {
+    ghost use Rattle.kit_pool.specs.Seating.{Found};
+
+    ghost then = { λ s me n after. Found P.rule E.next D.deed me n after };
+}
+
+/// A store, which does not tell it.
+pub struct Stores<P, E, D> {
+    of: PhantomData<(P, E, D)>,
+}
+
+impl<P: Protocol, E: Event<P::View>, D: Plan> Play<(), LinkedList<Place<P::View>>>
+    for Stores<P, E, D> {
+    ghost use Rattle.kit_pool.specs.Seating.{Stored};
+
+    ghost then = { λ s me n after. Stored P.rule E.next D.deed me n after };
+}
+
+/// A seat that has the places of several federates gives the first away, and one that takes another
+/// seat in has its own first.
+pub struct OwnFirst;
+
+impl<V> Split<LinkedList<Place<V>>> for OwnFirst {
+    ghost use Rattle.kit_pool.specs.Seating.{own_of, others_of};
+
+    ghost left = { others_of };
+
+    ghost right = { own_of };
+}
+
+impl<V> Join<LinkedList<Place<V>>> for OwnFirst {
+    ghost use Rattle.std.specs.Prelude.{[], ◌++◌};
+
+    ghost both = { λ d e. d ++ e };
+
+    ghost spent = { [] };
+}
