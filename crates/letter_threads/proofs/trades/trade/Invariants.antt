@@ -1,0 +1,10 @@
+use Rattle.std.proofs.Common.{◌≡◌, ℕ}
+use Rattle.kit_ground.specs.Steps.{buffer_of}
+use Rattle.kit_courier.specs.Calls.{IsSameSeat}
+use Rattle.letter_threads.proofs.trades.trade.Given as goal
+
+abbrev pub invariant-loop-turn : goal.invariant-loop-turn
+invariant-loop-turn g l =
+    g.G.Ground.came l.initial.seat l.seat
+    × IsSameSeat (g.G.Ground.place l.initial.seat) (g.G.Ground.place l.seat)
+    × ((k : ℕ) → (buffer_of (g.G.Ground.place l.seat).own.stock k).to_post ≡ 0)
