@@ -1,0 +1,9 @@
+pub mod Fronts
+pub mod Promises
+pub mod Cuts
+pub mod Merging
+pub mod PromiseLaws
+pub mod Queues
+pub mod OwnLaws
+pub mod Flows
+pub mod Laws
