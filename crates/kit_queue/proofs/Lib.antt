@@ -1,3 +1,3 @@
-mod Keys
-mod Waiting
-mod Places
+pub mod Keys
+pub mod Waiting
+pub mod Places

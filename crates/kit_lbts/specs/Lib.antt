@@ -1,0 +1,16 @@
+pub mod Views
+pub mod Promises
+pub mod Reduction
+pub mod Registers
+pub mod Letters
+pub mod Ways
+pub mod Seats
+pub mod Progress
+pub mod Rule
+pub mod RoundLaws
+pub mod LedgerLaws
+pub mod MessageLaws
+pub mod ReductionLaws
+pub mod LookLaws
+pub mod StepLaws
+pub mod Openings

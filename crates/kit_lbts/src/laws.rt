@@ -1,0 +1,86 @@
+//! Laws of the protocol: each is the contract of a function that does nothing.
+//!
+//! Those of steps have the form that a call of the floor asks, with premises on the seat's own place alone.
+
+ghost use Rattle.kit_lbts.specs.LedgerLaws.{AsidesLeaveLedgers, PostsAre, ReceiptsAre, CollectsAre, ReadyIs, GrantsAre, ContributionsAre};
+ghost use Rattle.kit_lbts.specs.LookLaws.{LooksTeach, AllTaughtIsResult};
+ghost use Rattle.kit_lbts.specs.Openings.{OpeningsHold};
+ghost use Rattle.kit_lbts.specs.ReductionLaws.{PublishedAreValues, AllIsResult, KnownLasts, SourcesArePublished};
+ghost use Rattle.kit_lbts.specs.RoundLaws.{PostsKeepRounds, ReceiptsKeepRounds, RisesKeepRounds, ContributionsKeepRounds};
+ghost use Rattle.kit_lbts.specs.StepLaws.{LooksKeep, StopLooksKeep, StopsKeep};
+ghost use Rattle.kit_lbts.specs.MessageLaws.{WritesKeep, ChargesKeep, PostsKeep, CollectsKeep, HeadsKeep, BodiesKeep, BodiesTell, ReleasesKeep, SettlesTell, CountLooksKeep};
+
+/// How a message is sent: its words are written into a buffer that was seen free, the buffer is charged
+/// for all its receivers, and a copy is posted to each.
+pub fn messages_are_sent()
+    ensures looks { CountLooksKeep }
+    ensures writes { WritesKeep }
+    ensures charges { ChargesKeep }
+    ensures posts { PostsKeep }
+{}
+
+/// How it comes: mail is collected, the heads of the copies in hand are read, and a copy is received with
+/// its body.
+///
+/// What is received was posted to the reader, is timed after its last grant, and was not received before.
+pub fn messages_are_received()
+    ensures collects { CollectsKeep }
+    ensures heads { HeadsKeep }
+    ensures bodies { BodiesKeep }
+    ensures told { BodiesTell }
+{}
+
+/// A buffer is released whose message is done with, or is timed below the known bound and waits on without
+/// it. The first of a queue that is timed below the bound is such a one, and is the only one that is settled.
+pub fn buffers_are_released()
+    ensures releases { ReleasesKeep }
+    ensures first { SettlesTell }
+{}
+
+/// The rule holds on a new floor for the federates of a federation.
+pub fn openings_hold()
+    ensures { OpeningsHold }
+{}
+
+/// Looks at registers and at the stop word keep the rule, and so does the setting of the stop word.
+pub fn looks_keep_the_rule()
+    ensures looks { LooksKeep }
+    ensures stop_looks { StopLooksKeep }
+    ensures stops { StopsKeep }
+{}
+
+/// What each deed of a federate is to its ledger, by what it knows itself: a post, a receipt, a rise of its
+/// promise, a contribution, or nothing.
+pub fn deeds_are_steps()
+    ensures asides { AsidesLeaveLedgers }
+    ensures posts { PostsAre }
+    ensures receipts { ReceiptsAre }
+    ensures ready { ReadyIs }
+    ensures collects { CollectsAre }
+    ensures grants { GrantsAre }
+    ensures contributions { ContributionsAre }
+{}
+
+/// Such a step of one federate's ledger keeps the rule of the rounds.
+pub fn steps_keep_rounds()
+    ensures posts { PostsKeepRounds }
+    ensures receipts { ReceiptsKeepRounds }
+    ensures rises { RisesKeepRounds }
+    ensures contributions { ContributionsKeepRounds }
+{}
+
+/// What comes of the shares that are taken in, in either scheme: the value of each place that is published,
+/// and at last the result. Whatever is taken in is a place that another federate publishes.
+pub fn shares_come_together()
+    ensures sources { SourcesArePublished }
+    ensures published { PublishedAreValues }
+    ensures result { AllIsResult }
+{}
+
+/// What a federate learns by looks at registers: the share of the place that shows its round; and with the
+/// last one the result, to which all have contributed, with a bound where its sums are equal.
+pub fn looks_teach()
+    ensures lasts { KnownLasts }
+    ensures look { LooksTeach }
+    ensures result { AllTaughtIsResult }
+{}

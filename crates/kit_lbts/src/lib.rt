@@ -1,0 +1,14 @@
+//! The protocol of a federation on a floor: what each federate knows, what each step does to that, and
+//! the rule that holds between any two steps.
+#![tactic(auto)]
+
+mod laws;
+mod lbts;
+mod view;
+
+pub use laws::{
+    buffers_are_released, deeds_are_steps, looks_keep_the_rule, looks_teach, messages_are_received,
+    messages_are_sent, openings_hold, shares_come_together, steps_keep_rounds,
+};
+pub use lbts::{Lbts, Opening, Progress};
+pub use view::{Filled, InHand, LbtsView, Noted, Orphan, Posting, Scheme, Spent};

@@ -1,0 +1,17 @@
+pub mod Sums
+pub mod Stamps
+pub mod Ways
+pub mod Results
+pub mod Lists
+pub mod Changing
+pub mod Kept
+pub mod Colours
+pub mod PostSteps
+pub mod ReceiptSteps
+pub mod RiseSteps
+pub mod Contributing
+pub mod Balances
+pub mod Closing
+pub mod Knowing
+pub mod Opening
+pub mod Leasts
