@@ -233,6 +233,7 @@ module _ (p : P) (i k head : ℕ) (li : i < p.own.federates) (lk : k < p.own.buf
           transported = old.transported;
           each = old.each;
           receivers = old.receivers;
+          few = old.few;
           new = λ e. absurd (nothing_in (old.new e).4 (arriving.there p i k head li lk has_head m places w));
         }
       where

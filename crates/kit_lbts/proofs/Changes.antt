@@ -1,5 +1,6 @@
 -- A step of one federate: what its place was, and what the rule needs where the step is none of a register.
-use Rattle.std.proofs.Common.{◌≡◌, ◌≢◌, ℕ, zero, suc, ◌+◌, ◌-◌, ◌*◌, ◌%◌, ◌<◌, ◌≤◌, inl, inr, ◌⊎◌, List, [], length, refl, sym, ap, ◌∙◌, subst, ⊎_elim, length-set, true}
+use Rattle.std.proofs.Common.{◌≡◌, ◌≢◌, ℕ, zero, suc, ◌+◌, ◌-◌, ◌*◌, ◌%◌, ◌^◌, ◌<◌, ◌≤◌, inl, inr, ◌⊎◌, List, [], length, refl, sym, ap, ◌∙◌, subst, ⊎_elim, length-set, true}
+use Rattle.std.specs.List.{All}
 use Rattle.std.specs.Prelude.{slice_set, slice_index_or}
 use mathlib.Core.Logic.{dite}
 use mathlib.Core.Option.{some}
@@ -115,6 +116,7 @@ module _ (n : ℕ) (ledgers after : ℕ → Ledger) (same : (j : ℕ) → (after
             (h.now stage l t));
         before = subst (Before now) (sym same_said) (λ stage l t. move j stage (c - 1) (c + 1) (h.before stage l t));
         clock = words (clock_of j) ∙ (h.clock ∙ sym time);
+        lows = subst (λ (s : Said). All (λ (c : Contribution). c.share.low < 2 ^ 17) s.0) (sym same_said) h.lows;
       }
 
   learnt_still : (j : ℕ) (p q : P) → said q.client ≡ said p.client → Learnt n ledgers j p → Learnt n after j q

@@ -130,6 +130,7 @@ module _ (p : P) (k mask : ℕ) (first : Message) (rest : List Message) (may : M
         transported = old.transported;
         each = λ i li. old.each i li ∙ ap (λ (l : List Message). map (λ (f : Filled). f.message) (posted_to i p.client) ++ l) (left_is i);
         receivers = old.receivers;
+        few = old.few;
         new = old.new;
       }
 

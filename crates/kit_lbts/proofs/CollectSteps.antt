@@ -1,5 +1,5 @@
 -- A mail word is collected, by a federate whose start's rules have run.
-use Rattle.std.proofs.Common.{◌≡◌, ◌≢◌, ℕ, ◌+◌, ◌*◌, ◌/◌, ◌%◌, ◌<◌, ◌==◌, ◌&&◌, Bool, cond, true, false, ⊎_elim, max, List, ◌++◌, length, map, None, refl, sym, ap, ◌∙◌, subst, arith, get_or-set_same, get_or-set_other, eq-eqb}
+use Rattle.std.proofs.Common.{◌≡◌, ◌≢◌, ℕ, ◌+◌, ◌*◌, ◌/◌, ◌%◌, ◌<◌, ◌≤◌, ◌==◌, ◌&&◌, Bool, cond, true, false, ⊎_elim, max, List, ◌++◌, length, map, None, refl, sym, ap, ◌∙◌, subst, arith, get_or-set_same, get_or-set_other, eq-eqb}
 use Rattle.std.proofs.lemmas.List.{set-set}
 use Rattle.std.specs.List.{count_by, range_with_len, All}
 use Rattle.std.specs.Prelude.{slice_index, slice_set, bit_or}
@@ -30,7 +30,7 @@ use Rattle.kit_lbts.specs.declared.view.LbtsView.{LbtsView}
 use Rattle.kit_lbts.specs.Views.{is_in_hand, is_new, is_spent, time_of}
 use Rattle.kit_lbts.specs.Promises.{ledger_of}
 use Rattle.kit_lbts.specs.Letters.{Letters}
-use Rattle.kit_lbts.specs.Seats.{Granting, Heard, Holdings, Queue, Sends, waits_in}
+use Rattle.kit_lbts.specs.Seats.{Granting, Heard, Holdings, Queue, Sends, most_sends, waits_in}
 use Rattle.kit_lbts.specs.Ways.{Way, WayBetween, marked, posted_to}
 use Rattle.kit_lbts.specs.Progress.{buffers_in, collected, in_hand, progressed, ready, started}
 use Rattle.kit_lbts.specs.Rule.{LbtsRule, lbts_rule}
@@ -210,6 +210,7 @@ module _ (p : P) (i word : ℕ) (li : i < p.own.federates) (old_seat : is_new p.
     transported = old.transported;
     each = λ x lx. old.each x lx ∙ ap (λ (l : List Message). map (λ (f : Filled). f.message) (posted_to x p.client) ++ l) (sym (left_same p.client.sending (own_after deed p.own).stock p.own.stock p.client.federation x p.client.outbox (λ y. refl)));
     receivers = old.receivers;
+    few = old.few;
     new = λ e. absurd (let t : true ≡ false = sym (ap is_new e) ∙ old_seat in (cc));
   }
 
@@ -247,14 +248,14 @@ module _ (p : P) (i word : ℕ) (li : i < p.own.federates) (old_seat : is_new p.
   })
 
 -- where the start's rules have not run, they run first
-first_collect : (p : P) (i word : ℕ) → i < p.own.federates → is_new p.client.request ≡ true → (m : Memory) (places : List P) (w : World lbts_rule p m places)
+first_collect : (p : P) (i word : ℕ) → i < p.own.federates → is_new p.client.request ≡ true → length (ready p.own.number p.client).state.sends ≤ most_sends → (m : Memory) (places : List P) (w : World lbts_rule p m places)
     → Kept lbts_rule m places (stored m (Mail p.own.number i word) 0) (slice_set places p.own.number (acted progressed (Collected i word (m (Mail p.own.number i word))) p))
-first_collect p i word li fresh m places w =
+first_collect p i word li fresh few m places w =
     let me : ℕ = p.own.number in
     let deed = Collected i word (m (Mail p.own.number i word)) in
     let now : Memory = stored m (Mail p.own.number i word) 0 in
     let p' : P = record p { client = started p.own.number p.client } in
-    let k = collect p' i word li refl m (slice_set places me p') (started_world p fresh m places w) in
+    let k = collect p' i word li refl m (slice_set places me p') (started_world p fresh (subst (λ (b : Bool). length (cond b (started p.own.number p.client) p.client).state.sends ≤ most_sends) fresh few) m places w) in
     let view : ready me p.client ≡ started me p.client = ap (λ (b : Bool). cond b (started p.own.number p.client) p.client) fresh in
     let same : acted progressed deed p' ≡ acted progressed deed p = λ t. record { own = own_after deed p.own; client = collected p.own.buffers i word (m (Mail p.own.number i word)) (sym view t) } in
     let after : slice_set (slice_set places me p') me (acted progressed deed p') ≡ slice_set places me (acted progressed deed p) =
@@ -262,7 +263,7 @@ first_collect p i word li fresh m places w =
     record { client = subst (LbtsRule now) after k.client; guests = λ g sees. tt }
 
 pub collects_keep : CollectsKeep
-collects_keep p i word li other lw m places w = ⊎_elim
-    (λ (e : is_new p.client.request ≡ true). first_collect p i word li e m places w)
+collects_keep p i word li other lw few m places w = ⊎_elim
+    (λ (e : is_new p.client.request ≡ true). first_collect p i word li e few m places w)
     (λ (e : is_new p.client.request ≡ false). collect p i word li e m places w)
     (cases_Bool (is_new p.client.request))

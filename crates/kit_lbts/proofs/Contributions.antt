@@ -37,7 +37,7 @@ lower_greatest run low w c le h = step (c.stamp.colour == run) refl
     step true e = omega (arith, le, h (eqb-true c.stamp.colour run e))
     step false e = le
 
-low_le : (run promise : ℕ) (cs : List Copy) → low_in run promise cs ≤ promise
+pub low_le : (run promise : ℕ) (cs : List Copy) → low_in run promise cs ≤ promise
 low_le run promise [] = omega arith
 low_le run promise (c ∷ cs) = omega (arith, low_le run (cond (c.stamp.colour == run) (min promise c.stamp.time) promise) cs, lower_le run promise c)
 
@@ -60,7 +60,7 @@ low_is l run = record {
   greatest = λ w le h. low_greatest run l.promise w l.posted le h;
 }
 
-last_is : (cs : List Contribution) (c : Contribution) → last_run (cs ++ c ∷ []) ≡ c.run
+pub last_is : (cs : List Contribution) (c : Contribution) → last_run (cs ++ c ∷ []) ≡ c.run
 last_is cs c =
     let last : length (cs ++ c ∷ []) - 1 ≡ length cs = omega (arith, length_push cs c) in
     ap (λ k. (slice_index_or (cs ++ c ∷ []) k nothing).run) last ∙ ap (λ (x : Contribution). x.run) (get_or_push cs c nothing (length cs) refl)

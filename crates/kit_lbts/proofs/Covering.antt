@@ -51,9 +51,15 @@ or_cases : (a b : Bool) → (a || b) ≡ true → (a ≡ true) ⊎ (b ≡ true)
 or_cases true b e = inl refl
 or_cases false b e = inr e
 
--- within the butterfly, the places up to a stage take in the block of that stage
-block_covers : (n x i : ℕ) (b : Bool) → 1 ≤ n → n ≤ 16 → x < width n → has_outer n x ≡ b → (s : ℕ) → s ≤ stages n → in_block n s x i ≡ true → (i ≡ x) ⊎ TakesIn n i (inner n x b)
-block_covers n x i b one few within outer zero le h =
+-- one of the first of these places takes in i
+pub record TakesFirst (n i : ℕ) (ss : List Source) (many : ℕ) : Type 0 where
+  pub place : ℕ
+  pub before : place < many
+  pub takes : takes_in n (get_or ss place (source 0 0)).owner (get_or ss place (source 0 0)).stage i ≡ true
+
+-- within the butterfly, the places before a stage take in the block of that stage
+pub first_covers : (n x i : ℕ) (b : Bool) → 1 ≤ n → n ≤ 16 → x < width n → has_outer n x ≡ b → (s : ℕ) → s ≤ stages n → in_block n s x i ≡ true → (i ≡ x) ⊎ TakesFirst n i (inner n x b) (s + shift b)
+first_covers n x i b one few within outer zero le h =
     let first : (nat_lt i n && ((i == x) || (i == width n + x))) ≡ true = sym (first_block n x i within) ∙ h in
     let parts = and_parts (nat_lt i n) ((i == x) || (i == width n + x)) first in
     elim (or_cases (i == x) (i == width n + x) parts.1) [
@@ -61,25 +67,35 @@ block_covers n x i b one few within outer zero le h =
       | inr e ↦ inr (outer_one b outer parts.0 e)
     ]
   where
-    outer_one : (c : Bool) → has_outer n x ≡ c → nat_lt i n ≡ true → (i == width n + x) ≡ true → TakesIn n i (inner n x c)
-    outer_one true has lt e = record { place = 0; within = omega arith; takes = e }
+    outer_one : (c : Bool) → has_outer n x ≡ c → nat_lt i n ≡ true → (i == width n + x) ≡ true → TakesFirst n i (inner n x c) (0 + shift c)
+    outer_one true has lt e = record { place = 0; before = omega arith; takes = e }
     outer_one false has lt e =
         let is = eqb-true i (width n + x) e in
         let yes : has_outer n x ≡ true = and_from (nat_lt x (width n)) (nat_lt (width n + x) n) (lt-ltb x (width n) within) (ap (λ k. nat_lt k n) (sym is) ∙ lt) in
         absurd (false≢true (sym has ∙ yes))
-block_covers n x i b one few within outer (suc s) le h =
+first_covers n x i b one few within outer (suc s) le h =
     let next : s + 1 ≡ suc s = omega arith in
     let both : (in_block n s x i || in_block n s (partner_of s x) i) ≡ true = sym (next_block n s x i) ∙ ap (λ k. in_block n k x i) next ∙ h in
     elim (or_cases (in_block n s x i) (in_block n s (partner_of s x) i) both) [
-      | inl e ↦ block_covers n x i b one few within outer s (omega arith) e
+      | inl e ↦ elim (first_covers n x i b one few within outer s (omega arith) e) [
+        | inl own ↦ inl own
+        | inr t ↦ inr (record { place = t.place; before = omega (arith, t.before); takes = t.takes })
+      ]
       | inr e ↦
           let four : s < 4 = omega (arith, few_stages n one few) in
           inr (record {
             place = s + shift b;
-            within = omega (arith, inner_length n x b);
+            before = omega arith;
             takes = ap (λ (c : Source). takes_in n c.owner c.stage i) (inner_at n x s b (omega arith)) ∙ takes_in_stage n (partner_of s x) s i (λ q. omega (arith, q)) (λ q. omega (arith, q)) ∙ e;
           })
     ]
+
+-- so all places take in the block of each stage
+block_covers : (n x i : ℕ) (b : Bool) → 1 ≤ n → n ≤ 16 → x < width n → has_outer n x ≡ b → (s : ℕ) → s ≤ stages n → in_block n s x i ≡ true → (i ≡ x) ⊎ TakesIn n i (inner n x b)
+block_covers n x i b one few within outer s le h = elim (first_covers n x i b one few within outer s le h) [
+  | inl e ↦ inl e
+  | inr t ↦ inr (record { place = t.place; within = omega (arith, t.before, inner_length n x b); takes = t.takes })
+]
 
 outer_covers : (n x i : ℕ) (outer : Bool) → x < n → n ≤ 16 → i < n → is_outer n x ≡ outer → (i ≡ x) ⊎ TakesIn n i (places_by n x outer (has_outer n x))
 outer_covers n x i true xn few lt e = inr (record { place = 0; within = omega arith; takes = lt-ltb i n lt })

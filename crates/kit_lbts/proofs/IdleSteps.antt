@@ -86,6 +86,7 @@ module _ (p : P) (m : Memory) (places : List P) (w : World lbts_rule p m places)
         transported = old.transported;
         each = λ i li. old.each i li ∙ ap (λ (l : List Message). map (λ (f : Filled). f.message) (posted_to i p.client) ++ l) (sym (left_same p.client.sending (stock_after deed p.own.stock) p.own.stock p.client.federation i p.client.outbox leaves.owes));
         receivers = old.receivers;
+        few = old.few;
         new = old.new;
       }
 

@@ -11,7 +11,7 @@ use Rattle.kit_lbts.specs.Registers.{shares_at, IsPlace}
 use Rattle.kit_lbts.specs.ReductionLaws.{KnownLasts}
 use Rattle.kit_lbts.proofs.Gathering.{value_of_stage}
 
-before_share : (stage : ℕ) → stage < 6 → (stage ≡ 4 → ⊥) → (stage ≡ 5 → ⊥) → stage < 4
+pub before_share : (stage : ℕ) → stage < 6 → (stage ≡ 4 → ⊥) → (stage ≡ 5 → ⊥) → stage < 4
 before_share stage lt a b = grind (arith, a, b)
 
 pub takes_in_stage : (n owner stage j : ℕ) → (stage ≡ 4 → ⊥) → (stage ≡ 5 → ⊥) → takes_in n owner stage j ≡ in_block n stage owner j

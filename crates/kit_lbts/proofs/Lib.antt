@@ -35,3 +35,10 @@ pub mod LookSteps
 pub mod Replacing
 pub mod Openings
 pub mod Settling
+pub mod Publishing
+pub mod ContributionSteps
+pub mod StageFacts
+pub mod ValueSteps
+pub mod Blocks
+pub mod GrantSteps
+pub mod Fitting

@@ -101,7 +101,7 @@ module _ (m : Memory) (places : List (Place LbtsView)) (j : ℕ) (p : Place Lbts
   learns taken results le learnt =
       replaced m places j p (learning p x taken results) at rule refl (refl, refl, refl)
       (record {
-        registers = let h = seated.registers in record { now = h.now; before = h.before; clock = h.clock };
+        registers = let h = seated.registers in record { now = h.now; before = h.before; clock = h.clock; lows = h.lows };
         learnt = learnt;
         letters = let h = seated.letters in record { sized = h.sized; counted = h.counted; sending = λ k is. let g = h.sending k is in record { first = g.first; rest = g.rest; within = g.within; outbox = g.outbox; owed = g.owed; filled = g.filled }; others = h.others };
         holdings = let h = seated.holdings in record { each = h.each; in_hand = h.in_hand; queue = h.queue; spent = h.spent };
@@ -120,7 +120,7 @@ module _ (m : Memory) (places : List (Place LbtsView)) (j : ℕ) (p : Place Lbts
           wish = h.wish;
           asked = h.asked;
         };
-        sends = let h = seated.sends in record { own = h.own; numbered = h.numbered; next = h.next; timed = h.timed; takes_back = h.takes_back; waiting = h.waiting; late = h.late; transported = h.transported; each = h.each; receivers = h.receivers; new = h.new };
+        sends = let h = seated.sends in record { own = h.own; numbered = h.numbered; next = h.next; timed = h.timed; takes_back = h.takes_back; waiting = h.waiting; late = h.late; transported = h.transported; each = h.each; receivers = h.receivers; few = h.few; new = h.new };
       })
       (λ i q there h. record { copies = h.copies; heads = h.heads; lies = h.lies })
       (λ i q h. record { copies = h.copies; heads = h.heads; lies = h.lies })
@@ -182,7 +182,7 @@ module _ (m : Memory) (places : List (Place LbtsView)) (j : ℕ) (p : Place Lbts
         })
 
 -- a round is under way
-way_is : (v : LbtsView) → is_under_way v ≡ true → length v.contributions ≡ length v.results + 1
+pub way_is : (v : LbtsView) → is_under_way v ≡ true → length v.contributions ≡ length v.results + 1
 way_is v e =
     let parts = and_parts (length v.results == length v.contributions - 1) (nat_lt 0 (length v.contributions)) e in
     omega (arith, eqb-true (length v.results) (length v.contributions - 1) parts.0, ltb-true 0 (length v.contributions) parts.1)

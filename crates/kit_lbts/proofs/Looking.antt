@@ -19,7 +19,7 @@ use Rattle.kit_lbts.proofs.Places.{sources_are_published}
 use Rattle.kit_lbts.proofs.RoundSteps.{ledger_before}
 
 -- a word shows its round modulo 8
-shown_tag : (n : ℕ) (ledgers : ℕ → Ledger) (owner stage round word : ℕ) → IsShown n ledgers owner stage round word → word / 2 ^ 61 ≡ round % 8
+pub shown_tag : (n : ℕ) (ledgers : ℕ → Ledger) (owner stage round word : ℕ) → IsShown n ledgers owner stage round word → word / 2 ^ 61 ≡ round % 8
 shown_tag n ledgers owner stage zero word h = ap (λ w. w / 2 ^ 61) h
 shown_tag n ledgers owner stage (suc k) word h =
     ap (λ w. w / 2 ^ 61) h.1 ∙ ap (λ (x : Share × ℕ). x.1) (shares_come_back_law h.0 (suc k) h.2.fits)
@@ -31,7 +31,7 @@ shown_share n ledgers owner stage k word h =
     subst (IsKnown n ledgers owner stage k) (sym is) h.2
 
 -- it does not show the last round of its parity before
-not_before : (c : ℕ) → 1 ≤ c → c % 8 ≢ (c - 2) % 8
+pub not_before : (c : ℕ) → 1 ≤ c → c % 8 ≢ (c - 2) % 8
 not_before c one e = omega (arith, e)
 
 module _ (m : Memory) (places : List (Place LbtsView)) (owner stage k : ℕ) (q : Place LbtsView) (at : get_elem? places owner ≡ some q) (shows : Shows m places)

@@ -63,7 +63,7 @@ module _ (o : Opening) (sound : IsFederation o.federation.value) where
   }
 
   registers : (ledgers : ℕ → Ledger) (m j : ℕ) → Registers blank m ledgers j (seat j)
-  registers ledgers m j = record { now = λ s lt shown. inl refl; before = λ s lt shown. refl; clock = refl }
+  registers ledgers m j = record { now = λ s lt shown. inl refl; before = λ s lt shown. refl; clock = refl; lows = All-nil _ }
 
   learnt : (ledgers : ℕ → Ledger) (m j : ℕ) → Learnt m ledgers j (seat j)
   learnt ledgers m j = record {
@@ -121,6 +121,7 @@ module _ (o : Opening) (sound : IsFederation o.federation.value) where
     transported = All-nil _;
     each = λ i lt. refl;
     receivers = All-nil _;
+    few = omega arith;
     new = λ none. (refl, refl, refl, refl, refl);
   }
 

@@ -49,7 +49,7 @@ no_receipts : (d : ℕ) (due : List Message) → receipts_in (map (λ m. noted (
 no_receipts d [] = refl
 no_receipts d (m ∷ ms) = no_receipts d ms
 
-same_receipts : (d : ℕ) (due : List Message) (ns : List Noted) → receipts_in (ns ++ map (λ m. noted (Delivered d m)) due ++ noted (Granted d) ∷ []) ≡ receipts_in ns
+pub same_receipts : (d : ℕ) (due : List Message) (ns : List Noted) → receipts_in (ns ++ map (λ m. noted (Delivered d m)) due ++ noted (Granted d) ∷ []) ≡ receipts_in ns
 same_receipts d due ns =
     filter_map-append (λ (e : Noted). receipt_of e.entry e.colour) (ns ++ map (λ m. noted (Delivered d m)) due) (noted (Granted d) ∷ [])
     ∙ append-nil (receipts_in (ns ++ map (λ m. noted (Delivered d m)) due))
@@ -57,7 +57,7 @@ same_receipts d due ns =
     ∙ ap (λ fs. receipts_in ns ++ fs) (no_receipts d due) ∙ append-nil (receipts_in ns)
 
 -- the time that was granted is the logical time
-granted_time : (j d : ℕ) (v : LbtsView) → time_of (granted j d v) ≡ d
+pub granted_time : (j d : ℕ) (v : LbtsView) → time_of (granted j d v) ≡ d
 granted_time j d v =
     ap now_of (map-append (λ (e : Noted). e.entry) (v.journal ++ map (λ m. noted (Delivered d m)) (due_in d v.queue)) (noted (Granted d) ∷ []))
     ∙ now_of-granted (map (λ (e : Noted). e.entry) (v.journal ++ map (λ m. noted (Delivered d m)) (due_in d v.queue))) d

@@ -164,7 +164,7 @@ module _ (p : P) (i k : ℕ) (li : i < p.own.federates) (lk : k < p.own.buffers)
     granting = let old = (mine p m places w now deed).granting in record { lawful = old.lawful; below = old.below; within = old.within; wish = old.wish; asked = old.asked }
 
     sends : Sends me (with then)
-    sends = let old = (mine p m places w now deed).sends in record { own = old.own; numbered = old.numbered; next = old.next; timed = old.timed; takes_back = old.takes_back; waiting = old.waiting; late = old.late; transported = old.transported; each = λ x lx. old.each x lx ∙ ap (λ (l : List Message). map (λ (f : Filled). f.message) (posted_to x p.client) ++ l) (sym (left_same p.client.sending (own_after deed p.own).stock p.own.stock p.client.federation x p.client.outbox (λ y. refl))); receivers = old.receivers; new = old.new }
+    sends = let old = (mine p m places w now deed).sends in record { own = old.own; numbered = old.numbered; next = old.next; timed = old.timed; takes_back = old.takes_back; waiting = old.waiting; late = old.late; transported = old.transported; each = λ x lx. old.each x lx ∙ ap (λ (l : List Message). map (λ (f : Filled). f.message) (posted_to x p.client) ++ l) (sym (left_same p.client.sending (own_after deed p.own).stock p.own.stock p.client.federation x p.client.outbox (λ y. refl))); receivers = old.receivers; few = old.few; new = old.new }
 
     way_me : (a : ℕ) (r : P) → Was places me p q a r → WayBetween now a me r q
     way_me a r ta =

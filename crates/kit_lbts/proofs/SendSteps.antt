@@ -256,6 +256,7 @@ module _ (p : P) (k j : ℕ) (lk : k < p.own.buffers) (lj : j < p.own.federates)
         transported = all_left (λ (x : Message). is_transported p.client.federation x ≡ true) last p.client.outbox old.transported;
         each = λ i li. dite (ℕ_discrete i j) (λ same. subst Sent (sym same) sent_here) (λ other. sent_there i li other);
         receivers = All-push (λ (x : Posting). x.to < p.own.federates) p.client.posted made old.receivers lj;
+        few = old.few;
         new = λ e. let n = (old.new e).3 in let o = before.outbox in absurd (cc);
       }
 

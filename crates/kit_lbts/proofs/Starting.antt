@@ -35,7 +35,7 @@ use Rattle.kit_lbts.specs.declared.view.LbtsView.{LbtsView}
 use Rattle.kit_lbts.specs.Views.{is_new, time_of}
 use Rattle.kit_lbts.specs.Promises.{added_of, ledger_of}
 use Rattle.kit_lbts.specs.Letters.{Letters}
-use Rattle.kit_lbts.specs.Seats.{Granting, Sends, TakeBack, left_of}
+use Rattle.kit_lbts.specs.Seats.{Granting, Sends, TakeBack, left_of, most_sends}
 use Rattle.kit_lbts.specs.Ways.{Way, marked}
 use Rattle.kit_lbts.specs.Progress.{ready, started}
 use Rattle.kit_lbts.specs.Rule.{LbtsRule, Seated, lbts_rule}
@@ -82,7 +82,7 @@ floor_still b m places me p q here same h =
       stop = h.stop;
     }
 
-module _ (p : P) (fresh : is_new p.client.request ≡ true) (m : Memory) (places : List P) (w : World lbts_rule p m places) where
+module _ (p : P) (fresh : is_new p.client.request ≡ true) (few : length (started p.own.number p.client).state.sends ≤ most_sends) (m : Memory) (places : List P) (w : World lbts_rule p m places) where
   abbrev me : ℕ
   me = p.own.number
 
@@ -197,6 +197,7 @@ module _ (p : P) (fresh : is_new p.client.request ≡ true) (m : Memory) (places
         ∙ ((λ t. left_of (sym sending_none t) p.own.stock f i then.outbox)
         ∙ ap (λ (l : List Filled). map (λ (x : Filled). x.message) l ++ left_of p.client.sending p.own.stock f i then.outbox) (λ t. map (λ (x : Posting). x.filled) (filter (λ (x : Posting). x.to == i) (sym none.1 t))));
     receivers = rule.sends.receivers;
+    few = few;
     new = λ e. absurd (let t : false ≡ true = ap is_new e in (cc));
   }
 

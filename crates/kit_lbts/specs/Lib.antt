@@ -14,3 +14,4 @@ pub mod ReductionLaws
 pub mod LookLaws
 pub mod StepLaws
 pub mod Openings
+pub mod PublishLaws

@@ -1,6 +1,6 @@
 -- Laws of the steps of a federate, each in the form that a call of the floor asks. The premises speak of the
 -- seat's own place alone.
-use Rattle.std.specs.Prelude.{◌≡◌, ◌≢◌, ◌==◌, ℕ, ◌<◌, ◌≤◌, ◌/◌, ◌^◌, ◌⊎◌, true, false, List, ◌∷◌, All, Contains, find, slice_index, Some, None}
+use Rattle.std.specs.Prelude.{◌≡◌, ◌≢◌, ◌==◌, ℕ, ◌<◌, ◌≤◌, ◌/◌, ◌^◌, ◌⊎◌, true, false, List, ◌∷◌, All, Contains, find, length, slice_index, Some, None}
 use Rattle.std.specs.Int.{bit_at}
 use Rattle.std.specs.List.{list_any}
 use Rattle.kit_base.specs.declared.message.Message.{Message}
@@ -22,8 +22,8 @@ use Rattle.kit_lbts.specs.declared.view.LbtsView.{LbtsView}
 use Rattle.kit_lbts.specs.Views.{is_for, is_in_hand, is_spent, received, time_of}
 use Rattle.kit_lbts.specs.Promises.{bound_of}
 use Rattle.kit_lbts.specs.Ways.{posted_to}
-use Rattle.kit_lbts.specs.Seats.{waits_in}
-use Rattle.kit_lbts.specs.Progress.{message_in, progressed, put_down}
+use Rattle.kit_lbts.specs.Seats.{most_sends, waits_in}
+use Rattle.kit_lbts.specs.Progress.{message_in, progressed, put_down, ready}
 use Rattle.kit_lbts.specs.Rule.{lbts_rule}
 
 -- a part of a buffer that was seen free is written
@@ -54,9 +54,9 @@ abbrev pub PostsKeep : Type 0
 PostsKeep = (p : Place LbtsView) (k j : ℕ) → k < p.own.buffers → j < p.own.federates → bit_at (buffer_of p.own.stock k).to_post j ≡ 1
     → Keeps lbts_rule progressed p (Mail j p.own.number (k / 64)) (λ _. PostedTo k j)
 
--- a mail word is collected
+-- a mail word is collected, by one whose start's rules have numbers enough
 abbrev pub CollectsKeep : Type 0
-CollectsKeep = (p : Place LbtsView) (i word : ℕ) → i < p.own.federates → i ≢ p.own.number → word < mail_words p.own.buffers
+CollectsKeep = (p : Place LbtsView) (i word : ℕ) → i < p.own.federates → i ≢ p.own.number → word < mail_words p.own.buffers → length (ready p.own.number p.client).state.sends ≤ most_sends
     → Keeps lbts_rule progressed p (Mail p.own.number i word) (λ mail. Collected i word mail)
 
 -- the head of a copy that is in hand is read

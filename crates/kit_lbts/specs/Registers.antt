@@ -1,11 +1,12 @@
 -- The rule of the registers: what each shows, and what each federate has learnt from them.
-use Rattle.std.specs.Prelude.{◌≡◌, ℕ, zero, suc, ◌+◌, ◌-◌, ◌<◌, ◌≤◌, ◌⊎◌, true, [], length, slice_index_or}
+use Rattle.std.specs.Prelude.{◌≡◌, ℕ, zero, suc, ◌+◌, ◌-◌, ◌^◌, ◌<◌, ◌≤◌, ◌⊎◌, true, All, [], length, slice_index_or}
 use Rattle.kit_ground.specs.declared.address.Address.TheVariants.{Register}
 use Rattle.kit_ground.specs.declared.place.Place.{Place}
 use Rattle.kit_ground.specs.Memory.{Memory}
 use Rattle.kit_model.specs.declared.share.Share.{Share}
 use Rattle.kit_model.specs.Blocks.{width}
 use Rattle.kit_model.specs.Shares.{share_word, FitsWord}
+use Rattle.kit_rounds.specs.declared.contribution.Contribution.{Contribution}
 use Rattle.kit_rounds.specs.Ledgers.{Ledger, at_round}
 use Rattle.kit_rounds.specs.Rounds.{HasContributed, result_of}
 use Rattle.kit_lbts.specs.declared.view.LbtsView.{LbtsView}
@@ -47,6 +48,8 @@ pub record Registers (m : Memory) (n : ℕ) (ledgers : ℕ → Ledger) (j : ℕ)
   pub before : (stage : ℕ) → stage < 6 → publishes p.client.scheme n j stage ≡ true
       → let c = length p.client.contributions in IsShown n ledgers j stage (c - 1) (word_at m j stage (c + 1))
   pub clock : m (Register (clock_of j)) ≡ time_of p.client
+  -- the lows of its shares have room in a word
+  pub lows : All (λ (c : Contribution). c.share.low < 2 ^ 17) p.client.contributions
 
 -- what the federate j has learnt: the places that it took in since its last contribution, and the results
 pub record Learnt (n : ℕ) (ledgers : ℕ → Ledger) (j : ℕ) (p : Place LbtsView) : Type 0 where

@@ -95,6 +95,10 @@ pub record TakeBack (sends : List Message) : Type 0 where
       → (e : Message) × Contains sends e × (is_event e.kind ≡ true) × (e.number ≡ r.value) × (e.time ≡ r.time) × (e.group ≡ r.group)) sends
   pub once : All (λ (r : Message). All (λ (s : Message). is_event r.kind ≡ false → is_event s.kind ≡ false → r.value ≡ s.value → r.number ≡ s.number) sends) sends
 
+-- the numbers of a federate's messages go from 1 to this
+abbrev pub most_sends : ℕ
+most_sends = 16384
+
 -- what it sent: the messages to j that are transported are those posted to j and those still to be posted
 pub record Sends (j : ℕ) (p : Place LbtsView) : Type 0 where
   pub own : All (λ (m : Message). m.sender ≡ j) p.client.state.sends
@@ -109,5 +113,6 @@ pub record Sends (j : ℕ) (p : Place LbtsView) : Type 0 where
       → filter (is_for p.client.federation i) (transported_of p.client)
       ≡ map (λ (f : Filled). f.message) (posted_to i p.client) ++ left_of p.client.sending p.own.stock p.client.federation i p.client.outbox
   pub receivers : All (λ (x : Posting). x.to < p.own.federates) p.client.posted
+  pub few : length p.client.state.sends ≤ most_sends
   -- before its start it has sent, received and been granted nothing
   pub new : p.client.request ≡ None → (p.client.state.sends ≡ []) × (p.client.posted ≡ []) × (p.client.journal ≡ []) × (p.client.outbox ≡ []) × (p.client.in_hand ≡ [])

@@ -8,6 +8,7 @@ ghost use Rattle.kit_lbts.specs.Openings.{OpeningsHold};
 ghost use Rattle.kit_lbts.specs.ReductionLaws.{PublishedAreValues, AllIsResult, KnownLasts, SourcesArePublished};
 ghost use Rattle.kit_lbts.specs.RoundLaws.{PostsKeepRounds, ReceiptsKeepRounds, RisesKeepRounds, ContributionsKeepRounds};
 ghost use Rattle.kit_lbts.specs.StepLaws.{LooksKeep, StopLooksKeep, StopsKeep};
+ghost use Rattle.kit_lbts.specs.PublishLaws.{ContributionsKeep, ValuesKeep, BacksKeep, GrantsKeep};
 ghost use Rattle.kit_lbts.specs.MessageLaws.{WritesKeep, ChargesKeep, PostsKeep, CollectsKeep, HeadsKeep, BodiesKeep, BodiesTell, ReleasesKeep, SettlesTell, CountLooksKeep};
 
 /// How a message is sent: its words are written into a buffer that was seen free, the buffer is charged
@@ -83,4 +84,18 @@ pub fn looks_teach()
     ensures lasts { KnownLasts }
     ensures look { LooksTeach }
     ensures result { AllTaughtIsResult }
+{}
+
+/// A federate that has published all of its last round contributes to the next one. It publishes a value on
+/// the way once it has taken in what that needs, and the result once the round is closed.
+pub fn shares_are_published()
+    ensures contributions { ContributionsKeep }
+    ensures values { ValuesKeep }
+    ensures backs { BacksKeep }
+{}
+
+/// A federate that has nothing to post grants itself the time at which its request is due, where that is
+/// below the known bound and what is delivered needs no buffer any more.
+pub fn times_are_granted()
+    ensures { GrantsKeep }
 {}

@@ -8,7 +8,8 @@ mod view;
 
 pub use laws::{
     buffers_are_released, deeds_are_steps, looks_keep_the_rule, looks_teach, messages_are_received,
-    messages_are_sent, openings_hold, shares_come_together, steps_keep_rounds,
+    messages_are_sent, openings_hold, shares_are_published, shares_come_together,
+    steps_keep_rounds, times_are_granted,
 };
 pub use lbts::{Lbts, Opening, Progress};
 pub use view::{Filled, InHand, LbtsView, Noted, Orphan, Posting, Scheme, Spent};
