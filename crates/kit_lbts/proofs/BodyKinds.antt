@@ -382,10 +382,10 @@ module _ (p : P) (i k head : ℕ) (li : i < p.own.federates) (lk : k < p.own.buf
           (cases_Bool (list_any (is_orphan i message.number) p.client.orphans))
       by Retraction is = receive p i k head li lk has_head m places w _ _ _ (taken_back is)
 
-pub bodies_keep : BodiesKeep
+pub bodies_keep : BodiesKeep lbts_rule
 bodies_keep p i k head li lk has_head m places w = whole p i k head li lk has_head m places w
 
-pub bodies_tell : BodiesTell
+pub bodies_tell : BodiesTell lbts_rule
 bodies_tell p i k head word li lk has_head told =
     let m : Memory = told.0 in
     let places : List P = told.1 in

@@ -176,5 +176,5 @@ module _ (p : P) (k mask : ℕ) (first : Message) (rest : List Message) (may : M
     rounds = rises_keep_rounds places me p q w.here w.client.rounds (record { rises = omega arith; is = refl });
   })
 
-pub charges_keep : ChargesKeep
+pub charges_keep : ChargesKeep lbts_rule
 charges_keep p k mask first rest may m places w = charge p k mask first rest may m places w

@@ -262,7 +262,7 @@ first_collect p i word li fresh few m places w =
     set-set places me p' (acted progressed deed p') ∙ ap (slice_set places me) same in
     record { client = subst (LbtsRule now) after k.client; guests = λ g sees. tt }
 
-pub collects_keep : CollectsKeep
+pub collects_keep : CollectsKeep lbts_rule
 collects_keep p i word li other lw few m places w = ⊎_elim
     (λ (e : is_new p.client.request ≡ true). first_collect p i word li e few m places w)
     (λ (e : is_new p.client.request ≡ false). collect p i word li e m places w)

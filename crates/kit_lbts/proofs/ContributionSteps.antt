@@ -33,7 +33,7 @@ use Rattle.kit_lbts.specs.Letters.{Letters}
 use Rattle.kit_lbts.specs.Seats.{most_sends}
 use Rattle.kit_lbts.specs.Rule.{LbtsRule, Seated, lbts_rule}
 use Rattle.kit_lbts.specs.LedgerLaws.{ready_place}
-use Rattle.kit_lbts.specs.PublishLaws.{ContributionsKeep, IsOut}
+use Rattle.kit_lbts.specs.PublishLaws.{ContributionsKeep, ShowsLast}
 use Rattle.kit_lbts.specs.Ways.{Way, marked}
 use Rattle.kit_lbts.proofs.Changes.{ChangedAt, still}
 use Rattle.kit_lbts.proofs.Contributions.{last_is, low_is}
@@ -53,7 +53,7 @@ pub shown_as : (n : ℕ) (ledgers : ℕ → Ledger) (owner stage a b x y : ℕ) 
 shown_as n ledgers owner stage a b x y e f h = subst (λ (t : ℕ × ℕ). IsShown n ledgers owner stage t.0 t.1) (λ k. (e k, f k)) h
 
 module _ (p : P) (m : Memory) (places : List P) (w : World lbts_rule p m places) (level : length p.client.contributions ≡ length p.client.results)
-    (idle : p.client.sending ≡ None) (out : IsOut p) (fits : FitsWord (next_contribution p).share) where
+    (idle : p.client.sending ≡ None) (out : ShowsLast p) (fits : FitsWord (next_contribution p).share) where
   abbrev me : ℕ
   me = p.own.number
 
@@ -111,16 +111,16 @@ module _ (p : P) (m : Memory) (places : List P) (w : World lbts_rule p m places)
       (λ (h : IsShown n ledgers me stage k (word_at m me stage k)). h)
       (λ (h : IsShown n ledgers me stage (k - 2) (word_at m me stage k)). dite (ℕ_discrete k 0)
       (λ none. shown_as n ledgers me stage (k - 2) k (word_at m me stage k) (word_at m me stage k) (omega (arith, none)) refl h)
-      (λ some. absurd (not_before k (omega (arith, some)) (sym tag ∙ shown_tag n ledgers me stage (k - 2) (word_at m me stage k) h))))
+      (λ some. absurd (not_before k (omega (arith, some)) (sym (tag (omega (arith, some))) ∙ shown_tag n ledgers me stage (k - 2) (word_at m me stage k) h))))
       (mine.registers.now stage lt does)
     where
       own_fits : p.own.federates ≡ n
       own_fits = (w.floor.each me p w.here).federates
 
-      tag : word_at m me stage k / 2 ^ 61 ≡ k % 8
-      tag =
+      tag : 0 < k → word_at m me stage k / 2 ^ 61 ≡ k % 8
+      tag more =
           ap (λ x. x / 2 ^ 61) ((w.floor.each me p w.here).shows (k % 2 * 6 + stage) (omega (arith, lt)))
-          ∙ out stage lt (ap (λ (x : ℕ). publishes p.client.scheme x me stage) own_fits ∙ does)
+          ∙ out stage lt (ap (λ (x : ℕ). publishes p.client.scheme x me stage) own_fits ∙ does) more
 
   -- the words of all other places are as before
   same_word : (stage round : ℕ) → round % 2 * 6 + stage ≢ (k + 1) % 2 * 6 + share_stage → word_at now me stage round ≡ word_at m me stage round
@@ -236,7 +236,7 @@ module _ (p : P) (m : Memory) (places : List P) (w : World lbts_rule p m places)
   contribution = by_scheme p.client.scheme
 
 -- the start's rules run first, where they have not
-module _ (p : P) (level : length p.client.contributions ≡ length p.client.results) (idle : p.client.sending ≡ None) (out : IsOut p) (few : length (ready p.own.number p.client).state.sends ≤ most_sends) (m : Memory) (places : List P) (w : World lbts_rule p m places) where
+module _ (p : P) (level : length p.client.contributions ≡ length p.client.results) (idle : p.client.sending ≡ None) (out : ShowsLast p) (few : length (ready p.own.number p.client).state.sends ≤ most_sends) (m : Memory) (places : List P) (w : World lbts_rule p m places) where
   abbrev word_of : LbtsView → ℕ
   word_of u = share_word (next_contribution (record p { client = u })).share (length p.client.contributions + 1)
 
@@ -273,5 +273,5 @@ module _ (p : P) (level : length p.client.contributions ≡ length p.client.resu
       (ne_eqb reg.slot 12 (λ e. omega (arith, e))) (eq-eqb (reg.slot % 6) share_stage slot)))
       (from_ready (is_new p.client.request) refl)
 
-pub contributions_keep : ContributionsKeep
-contributions_keep p level idle out few m places w = record { client = contribution_keeps p level idle out few m places w; guests = λ g sees. tt }
+pub contributions_keep : ContributionsKeep lbts_rule
+contributions_keep p level out idle few m places w = record { client = contribution_keeps p level idle out few m places w; guests = λ g sees. tt }

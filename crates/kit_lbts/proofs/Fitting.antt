@@ -187,7 +187,7 @@ module _ (at_p : P) (m : Memory) (places : List P) (w : World lbts_rule at_p m p
     from_few i q there =
         omega (arith, (w.client.ways i j q p there at).copies (λ _. true), count_all (posted_to j q.client), count_all (received_from i p.client))
 
-    senders : All (λ (x : Filled). x.message.sender < length places) (receipts p.client)
+    pub senders : All (λ (x : Filled). x.message.sender < length places) (receipts p.client)
     senders = all_unmapped (λ (c : Copy). c.peer < n) copy_received (receipts p.client)
         (subst (λ (l : Ledger). All (λ (c : Copy). c.peer < n) l.received) (ledger_before places j p p at) (w.client.rounds.1.channels.received j (at_inside places j p at)))
 

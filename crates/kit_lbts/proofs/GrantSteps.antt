@@ -74,7 +74,7 @@ some_of : {X : Type 0} (o : Option X) → o ≢ None → (x : X) × (o ≡ Some 
 some_of None h = absurd (h refl)
 some_of (Some x) h = (x, refl)
 
-some_is : {X : Type 0} {a b : X} → Some a ≡ Some b → a ≡ b
+pub some_is : {X : Type 0} {a b : X} → Some a ≡ Some b → a ≡ b
 some_is {X} {a} {b} h = cc
 
 -- the messages of the entries of a grant
@@ -95,7 +95,7 @@ way_granted b mail i j v u u' keep r h q w =
     way_still b mail mail i j v less v u' (λ k lk. refl) refl (λ t. (r t, h t, q t)) first
 
 module _ (p : P) (asked : p.client.request ≢ None) (none : p.client.outbox ≡ []) (lt : time_of p.client < p.client.federation.end) (below : due_of p.client < bound_of p.client)
-    (loose : All (λ (e : Entry). e.message.time ≤ due_of p.client → e.buffer ≡ None) p.client.queue) (few : length (granted p.own.number (due_of p.client) p.client).state.sends ≤ most_sends) (m : Memory) (places : List P) (w : World lbts_rule p m places) where
+    (loose : All (λ (e : Entry). e.message.time ≤ due_of p.client → e.buffer ≡ None) p.client.queue) (m : Memory) (places : List P) (w : World lbts_rule p m places) where
   abbrev me : ℕ
   me = p.own.number
 
@@ -141,17 +141,17 @@ module _ (p : P) (asked : p.client.request ≢ None) (none : p.client.outbox ≡
   inside : p.own.number < length places
   inside = at_inside places me p w.here
 
-  sound : IsFederation p.client.federation
+  pub sound : IsFederation p.client.federation
   sound = subst IsFederation (sym (w.client.common.each me p w.here).0) w.client.common.sound
 
-  within : p.own.number < length p.client.federation.federates
+  pub within : p.own.number < length p.client.federation.federates
   within = subst (λ (x : Parts). me < length x.federates) (sym (w.client.common.each me p w.here).0) (subst (λ (n : ℕ). me < n) w.client.common.many inside)
 
   -- ---- the request and the time
-  request : (x : Request) × (p.client.request ≡ Some x)
+  pub request : (x : Request) × (p.client.request ≡ Some x)
   request = some_of p.client.request asked
 
-  due_is : due_of p.client ≡ due_time request.0 (messages_of p.client.queue)
+  pub due_is : due_of p.client ≡ due_time request.0 (messages_of p.client.queue)
   due_is = ap (λ (o : Option Request). due_by o (messages_of v.queue)) request.1
 
   request_is : request.0 ≡ request_at p.client.state.wish (time_of p.client) p.client.federation.end
@@ -171,14 +171,14 @@ module _ (p : P) (asked : p.client.request ≢ None) (none : p.client.outbox ≡
   in_time : due_of p.client ≤ p.client.federation.end
   in_time = omega (arith, capped, ap sane.time_of request_is, asked_within v.state.wish (time_of v) f.end)
 
-  time_is : time_of then ≡ due_of p.client
+  pub time_is : time_of then ≡ due_of p.client
   time_is = granted_time me d v
 
   -- ---- what is delivered
   queue_is : messages_of p.client.queue ≡ queue_of p.client.federation p.own.number (delivered p.client) (received p.client)
   queue_is = mine.queue.is
 
-  due_messages_are : due ≡ due_messages p.client.federation p.own.number (due_of p.client) (delivered p.client) (received p.client)
+  pub due_messages_are : due ≡ due_messages p.client.federation p.own.number (due_of p.client) (delivered p.client) (received p.client)
   due_messages_are =
       messages_sieved (λ x. nat_le x.time d) v.queue ∙ ap (filter (λ (x : Message). nat_le x.time d)) queue_is
       ∙ sym (queue_delivers_law f me d (delivered v) (received v))
@@ -186,15 +186,15 @@ module _ (p : P) (asked : p.client.request ≢ None) (none : p.client.outbox ≡
   receipts_are : receipts then ≡ receipts p.client
   receipts_are = same_receipts d due v.journal
 
-  received_is : received then ≡ received p.client
+  pub received_is : received then ≡ received p.client
   received_is = ap (map (λ (x : Filled). x.message)) receipts_are
 
-  entries_are : entries_of then ≡ (entries_of p.client ++ map (Delivered d) due) ++ Granted d ∷ []
+  pub entries_are : entries_of then ≡ (entries_of p.client ++ map (Delivered d) due) ++ Granted d ∷ []
   entries_are =
       map-append (λ (e : Noted). e.entry) (v.journal ++ map (λ x. noted (Delivered d x)) due) (noted (Granted d) ∷ [])
       ∙ ap (λ (l : List JournalEntry). l ++ Granted d ∷ []) (map-append (λ (e : Noted). e.entry) v.journal (map (λ x. noted (Delivered d x)) due) ∙ ap (λ (l : List JournalEntry). entries_of v ++ l) (entries_due d due))
 
-  delivered_is : delivered then ≡ delivered p.client ++ due
+  pub delivered_is : delivered then ≡ delivered p.client ++ due
   delivered_is =
       ap (filter_map delivery_of) entries_are ∙ filter_map-append delivery_of (entries_of v ++ map (Delivered d) due) (Granted d ∷ [])
       ∙ append-nil (filter_map delivery_of (entries_of v ++ map (Delivered d) due))
@@ -350,8 +350,8 @@ module _ (p : P) (asked : p.client.request ≢ None) (none : p.client.outbox ≡
             ap (λ (z : Message). z.number) (once a b (among.contains_among a after.sends (Contains-get_or after.sends x c lx)) (among.contains_among b after.sends (Contains-get_or after.sends y e ly)) na nb same);
       }
 
-  sends : Sends p.own.number q
-  sends =
+  sends : length (granted p.own.number (due_of p.client) p.client).state.sends ≤ most_sends → Sends p.own.number q
+  sends few =
       let old = mine.sends in
       let own_adds = adds p m places w in
       let timed : All (λ (x : Message). 0 < x.time) (v.state.sends ++ gain.made) =
@@ -413,15 +413,15 @@ module _ (p : P) (asked : p.client.request ≢ None) (none : p.client.outbox ≡
   idle : is_waiting p.client ≡ false
   idle = ap (λ (x : Option Request × List Message). is_new x.0 || not (is_empty x.1)) (λ t. (request.1 t, none t))
 
-  changed : ChangedAt p m places w now q refl
-  changed = record {
+  changed : length (granted p.own.number (due_of p.client) p.client).state.sends ≤ most_sends → ChangedAt p m places w now q refl
+  changed few = record {
     letters = letters;
     others = λ a x other at. letters_aside m now a x (λ y ly on. on) (λ y z ly on. refl) (w.client.each a x at).letters;
     holdings = holdings;
     queue = queue;
     heard = heard;
     granting = granting;
-    sends = sends;
+    sends = sends few;
     ways = ways_to places me p q (WayBetween now) way_me (λ a l x s other at ta.
         let b = still (λ (y : P). y.own.buffers) places me p q refl a x ta in
         subst (λ (y : ℕ). Way y (marked now a l) a l x.client s.client) (sym b)
@@ -430,8 +430,8 @@ module _ (p : P) (asked : p.client.request ≢ None) (none : p.client.outbox ≡
     rounds = rises_keep_rounds places me p q w.here w.client.rounds (grants_are p idle (omega (arith, later)) no_earlier);
   }
 
-  pub grant : LbtsRule (stored m (Register (clock_of p.own.number)) (due_of p.client)) (slice_set places p.own.number (acted progressed (Published (clock_of p.own.number) (due_of p.client)) p))
-  grant = published_at p m places w now q refl (omega (arith, inside)) (record {
+  pub grant : length (granted p.own.number (due_of p.client) p.client).state.sends ≤ most_sends → LbtsRule (stored m (Register (clock_of p.own.number)) (due_of p.client)) (slice_set places p.own.number (acted progressed (Published (clock_of p.own.number) (due_of p.client)) p))
+  grant few = published_at p m places w now q refl (omega (arith, inside)) (record {
     words = λ x other. register_else m r x d (λ own. absurd (other own));
     federation = refl;
     scheme = refl;
@@ -439,7 +439,7 @@ module _ (p : P) (asked : p.client.request ≢ None) (none : p.client.outbox ≡
     grows = sym (append-nil v.contributions);
     registers = registers;
     learnt = learnt;
-  }) changed
+  }) (changed few)
 
-pub grants_keep : GrantsKeep
-grants_keep p asked none lt below loose few m places w = record { client = grant p asked none lt below loose few m places w; guests = λ g sees. tt }
+pub grants_keep : GrantsKeep lbts_rule
+grants_keep p asked none lt below loose few m places w = record { client = grant p asked none lt below loose m places w few; guests = λ g sees. tt }

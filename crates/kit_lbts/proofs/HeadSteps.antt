@@ -112,5 +112,5 @@ module _ (p : P) (i k : ℕ) (li : i < p.own.federates) (lk : k < p.own.buffers)
     rounds = rises_keep_rounds places me p q w.here w.client.rounds (record { rises = omega arith; is = refl });
   })
 
-pub heads_keep : HeadsKeep
+pub heads_keep : HeadsKeep lbts_rule
 heads_keep p i k li lk held m places w = head_read p i k li lk held m places w

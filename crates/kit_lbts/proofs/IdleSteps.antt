@@ -116,7 +116,7 @@ module _ (p : P) (m : Memory) (places : List P) (w : World lbts_rule p m places)
   pub idle : Kept lbts_rule m places now (slice_set places p.own.number (acted progressed deed p))
   idle = kept p m places w now deed (record { words = leaves.registers; federation = ap (λ (v : LbtsView). v.federation) leaves.view; same = ap said leaves.view; time = ap time_of leaves.view }) changed
 
-pub writes_keep : WritesKeep
+pub writes_keep : WritesKeep lbts_rule
 writes_keep p k part word lk free m places w =
     let me : ℕ = p.own.number in
     let none : m (Count me k) ≡ 0 = free_uncounted p.own.buffers m places w.floor me p w.here k lk free in
@@ -131,7 +131,7 @@ writes_keep p k part word lk free m places w =
       words = λ i y x ly on. part_else m me k part i y x word (λ a e. absurd (let z : m (Count i y) ≡ 0 = (λ t. m (Count (a t) (e t))) ∙ none in omega arith));
     })
 
-pub count_looks_keep : CountLooksKeep
+pub count_looks_keep : CountLooksKeep lbts_rule
 count_looks_keep p k lk m places w =
     let me : ℕ = p.own.number in
     let free = m (Count me k) == 0 in
@@ -146,7 +146,7 @@ count_looks_keep p k lk m places w =
       words = λ i y x ly on. refl;
     })
 
-pub stop_looks_keep : StopLooksKeep
+pub stop_looks_keep : StopLooksKeep lbts_rule
 stop_looks_keep p m places w =
     idle p m places w (stored m Stop (m Stop)) (SawStop (m Stop == 1)) (record {
       view = refl;
@@ -158,7 +158,7 @@ stop_looks_keep p m places w =
       words = λ i y x ly on. refl;
     })
 
-pub stops_keep : StopsKeep
+pub stops_keep : StopsKeep lbts_rule
 stops_keep p m places w =
     idle p m places w (stored m Stop 1) Stopped (record {
       view = refl;

@@ -42,3 +42,10 @@ pub mod ValueSteps
 pub mod Blocks
 pub mod GrantSteps
 pub mod Fitting
+pub mod Agreeing
+pub mod Moments
+pub mod GrantAgreement
+pub mod OtherSteps
+pub mod AgreementEnds
+pub mod WithAgreement
+pub mod NextBlocks

@@ -282,7 +282,7 @@ module _ (p : Place LbtsView) (r : Reg) (m : Memory) (places : List (Place LbtsV
       (λ k. LbtsRule m (slice_set places j (place (cond (is_under_way v && shows_next (next_source v.scheme k j (length v.taken)) (length v.contributions) r word) (closed k j more) v))))
       many (by_test (is_under_way v && shows_next (next_source v.scheme n j (length v.taken)) (length v.contributions) r word) refl)
 
-pub looks_keep : LooksKeep
+pub looks_keep : LooksKeep lbts_rule
 looks_keep p r m places w = record {
   client =
       let same : m ≡ stored m (Register r) (m (Register r)) = sym (stored_same m (Register r)) in

@@ -45,7 +45,7 @@ module _ (o : Opening) (sound : IsFederation o.federation.value) where
   abbrev seat : ℕ → Place LbtsView
   seat j = record { own = own_at_first n f.buffers j; client = lbts_first o j }
 
-  is_seat : (j : ℕ) (p : Place LbtsView) → get_elem? places j ≡ some p → seat j ≡ p
+  pub is_seat : (j : ℕ) (p : Place LbtsView) → get_elem? places j ≡ some p → seat j ≡ p
   is_seat j p at =
       let is = client_at_first (lbts_first o) n f.buffers j p at in
       ap (λ own. record { own = own; client = lbts_first o j }) (sym is.1) ∙ ap (λ v. record { own = p.own; client = v }) (sym is.0)

@@ -241,7 +241,7 @@ module _ (p : P) (i k : ℕ) (li : i < p.own.federates) (lk : k < p.own.buffers)
           one e true h t is = t.0 h
           one e false h t is = t.1 is
 
-pub releases_keep : ReleasesKeep
+pub releases_keep : ReleasesKeep lbts_rule
 releases_keep p i k li lk held may m places w = ⊎_elim
     (λ (e : list_any (is_spent i k) p.client.spent ≡ true). by_spent e)
     (λ (may : MaySettle p i k). ⊎_elim

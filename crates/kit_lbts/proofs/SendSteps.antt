@@ -336,5 +336,5 @@ module _ (p : P) (k j : ℕ) (lk : k < p.own.buffers) (lj : j < p.own.federates)
     rounds = rounds;
   })
 
-pub posts_keep : PostsKeep
+pub posts_keep : PostsKeep lbts_rule
 posts_keep p k j lk lj owed m places w = post p k j lk lj owed m places w

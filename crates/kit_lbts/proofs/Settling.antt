@@ -12,7 +12,7 @@ use Rattle.kit_queue.specs.Entries.{buffer_of, first_buffer, is_settleable, sett
 use Rattle.kit_lbts.specs.Views.{is_in_hand, is_spent}
 use Rattle.kit_lbts.specs.Promises.{bound_of}
 use Rattle.kit_lbts.specs.MessageLaws.{SettlesTell}
-use Rattle.kit_lbts.specs.Rule.{Seated}
+use Rattle.kit_lbts.specs.Rule.{Seated, lbts_rule}
 use Rattle.kit_lbts.specs.Seats.{waits_in}
 use Rattle.kit_lbts.proofs.Hands.{count_any, count_cons, count_has, found_passes, give_up, one_if, waits_here}
 use Rattle.kit_lbts.proofs.Pendings.{any_at}
@@ -99,7 +99,7 @@ all_below v i k (x ∷ xs) e (suc n, l, is) waits lt few =
 one_reason : (h a b c : ℕ) → h ≡ a + b + c → h < 2 → 0 < b → (h ≡ 1) × (b ≤ 1) × (c ≡ 0)
 one_reason h a b c e lt pos = (omega arith, omega arith, omega arith)
 
-pub settles_tell : SettlesTell
+pub settles_tell : SettlesTell lbts_rule
 settles_tell p below i k le first m places w =
     let rule : Seated m places p.own.number p = w.client.each p.own.number p w.here in
     let t = first_is below i k p.client.queue first in

@@ -165,7 +165,7 @@ module _ (p : P) (m : Memory) (places : List P) (w : World lbts_rule p m places)
       (ne_eqb r.slot 12 (λ e. omega (arith, e, there))) (ne_eqb (r.slot % 6) share_stage (λ e. apart (omega (arith, e, there))))))
       (by_first (r.slot % 6 == 0))
 
-pub values_keep : ValuesKeep
+pub values_keep : ValuesKeep lbts_rule
 values_keep p stage early does under has m places w = record {
   client =
       let many : p.own.federates ≡ length places = (w.floor.each p.own.number p w.here).federates in
@@ -179,7 +179,7 @@ values_keep p stage early does under has m places w = record {
   guests = λ g sees. tt;
 }
 
-pub backs_keep : BacksKeep
+pub backs_keep : BacksKeep lbts_rule
 backs_keep p does level some_done m places w = record {
   client =
       let mine = w.client.each p.own.number p w.here in

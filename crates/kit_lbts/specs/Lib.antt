@@ -15,3 +15,5 @@ pub mod LookLaws
 pub mod StepLaws
 pub mod Openings
 pub mod PublishLaws
+pub mod Agreement
+pub mod AgreementLaws

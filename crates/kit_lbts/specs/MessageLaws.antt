@@ -10,7 +10,7 @@ use Rattle.kit_ground.specs.declared.place.Deed.TheVariants.{Wrote, Charged, Pos
 use Rattle.kit_ground.specs.declared.place.Place.{Place}
 use Rattle.kit_ground.specs.Layout.{mail_words}
 use Rattle.kit_ground.specs.Memory.{Memory}
-use Rattle.kit_ground.specs.Rules.{Keeps, Told, World}
+use Rattle.kit_ground.specs.Rules.{Keeps, Rule, Told, World}
 use Rattle.kit_ground.specs.Steps.{IsChargeable, IsMask, buffer_of}
 use Rattle.kit_queue.specs.declared.entry.Entry.{Entry}
 use Rattle.kit_queue.specs.Entries.{entry_of, first_buffer, is_numbered, settled_first}
@@ -27,9 +27,9 @@ use Rattle.kit_lbts.specs.Progress.{message_in, progressed, put_down, ready}
 use Rattle.kit_lbts.specs.Rule.{lbts_rule}
 
 -- a part of a buffer that was seen free is written
-abbrev pub WritesKeep : Type 0
-WritesKeep = (p : Place LbtsView) (k part word : ℕ) → k < p.own.buffers → (buffer_of p.own.stock k).free ≡ true
-    → Keeps lbts_rule progressed p (Part p.own.number k part) (λ _. Wrote k part word)
+abbrev pub WritesKeep : Rule LbtsView → Type 0
+WritesKeep rule = (p : Place LbtsView) (k part word : ℕ) → k < p.own.buffers → (buffer_of p.own.stock k).free ≡ true
+    → Keeps rule progressed p (Part p.own.number k part) (λ _. Wrote k part word)
 
 -- an own buffer may be charged: it has the first message of the outbox, with the colour of the federate, and no
 -- other message is half posted
@@ -45,33 +45,33 @@ pub record MayCharge (p : Place LbtsView) (k mask : ℕ) (first : Message) (rest
   pub fits : FitsHead first
   pub value : first.value < 2 ^ 32
 
-abbrev pub ChargesKeep : Type 0
-ChargesKeep = (p : Place LbtsView) (k mask : ℕ) (first : Message) (rest : List Message) → MayCharge p k mask first rest
-    → Keeps lbts_rule progressed p (Count p.own.number k) (λ _. Charged k mask)
+abbrev pub ChargesKeep : Rule LbtsView → Type 0
+ChargesKeep rule = (p : Place LbtsView) (k mask : ℕ) (first : Message) (rest : List Message) → MayCharge p k mask first rest
+    → Keeps rule progressed p (Count p.own.number k) (λ _. Charged k mask)
 
 -- it is posted to one to whom it is still to be posted
-abbrev pub PostsKeep : Type 0
-PostsKeep = (p : Place LbtsView) (k j : ℕ) → k < p.own.buffers → j < p.own.federates → bit_at (buffer_of p.own.stock k).to_post j ≡ 1
-    → Keeps lbts_rule progressed p (Mail j p.own.number (k / 64)) (λ _. PostedTo k j)
+abbrev pub PostsKeep : Rule LbtsView → Type 0
+PostsKeep rule = (p : Place LbtsView) (k j : ℕ) → k < p.own.buffers → j < p.own.federates → bit_at (buffer_of p.own.stock k).to_post j ≡ 1
+    → Keeps rule progressed p (Mail j p.own.number (k / 64)) (λ _. PostedTo k j)
 
 -- a mail word is collected, by one whose start's rules have numbers enough
-abbrev pub CollectsKeep : Type 0
-CollectsKeep = (p : Place LbtsView) (i word : ℕ) → i < p.own.federates → i ≢ p.own.number → word < mail_words p.own.buffers → length (ready p.own.number p.client).state.sends ≤ most_sends
-    → Keeps lbts_rule progressed p (Mail p.own.number i word) (λ mail. Collected i word mail)
+abbrev pub CollectsKeep : Rule LbtsView → Type 0
+CollectsKeep rule = (p : Place LbtsView) (i word : ℕ) → i < p.own.federates → i ≢ p.own.number → word < mail_words p.own.buffers → length (ready p.own.number p.client).state.sends ≤ most_sends
+    → Keeps rule progressed p (Mail p.own.number i word) (λ mail. Collected i word mail)
 
 -- the head of a copy that is in hand is read
-abbrev pub HeadsKeep : Type 0
-HeadsKeep = (p : Place LbtsView) (i k : ℕ) → i < p.own.federates → k < p.own.buffers → bit_at (slice_index p.own.stock.holds i) k ≡ 1
-    → Keeps lbts_rule progressed p (Part i k 0) (λ word. ReadPart i k 0 word)
+abbrev pub HeadsKeep : Rule LbtsView → Type 0
+HeadsKeep rule = (p : Place LbtsView) (i k : ℕ) → i < p.own.federates → k < p.own.buffers → bit_at (slice_index p.own.stock.holds i) k ≡ 1
+    → Keeps rule progressed p (Part i k 0) (λ word. ReadPart i k 0 word)
 
 -- a copy is in hand, and its head was read
 abbrev pub HasHead : Place LbtsView → ℕ → ℕ → ℕ → Type 0
 HasHead p i k head = find (is_in_hand i k) p.client.in_hand ≡ Some (record { from = i; buffer = k; head = Some head })
 
 -- its body is read: the copy is received
-abbrev pub BodiesKeep : Type 0
-BodiesKeep = (p : Place LbtsView) (i k head : ℕ) → i < p.own.federates → k < p.own.buffers → HasHead p i k head
-    → Keeps lbts_rule progressed p (Part i k 1) (λ word. ReadPart i k 1 word)
+abbrev pub BodiesKeep : Rule LbtsView → Type 0
+BodiesKeep rule = (p : Place LbtsView) (i k head : ℕ) → i < p.own.federates → k < p.own.buffers → HasHead p i k head
+    → Keeps rule progressed p (Part i k 1) (λ word. ReadPart i k 1 word)
 
 -- what the reader learns of the message: it is timed after the reader's last grant, it is for the reader and in
 -- time, nothing of its sender and number was received before or waits, and i had posted it to the reader
@@ -84,23 +84,23 @@ pub record IsTold (p : Place LbtsView) (i : ℕ) (message : Message) : Type 0 wh
   pub posted : (m : Memory) × (places : List (Place LbtsView)) × (q : Place LbtsView) × World lbts_rule p m places × (get_elem? places i ≡ some q)
       × ((colour : ℕ) × Contains (posted_to p.own.number q.client) (record { message = message; colour = colour }))
 
-abbrev pub BodiesTell : Type 0
-BodiesTell = (p : Place LbtsView) (i k head word : ℕ) → i < p.own.federates → k < p.own.buffers → HasHead p i k head
-    → Told lbts_rule p (Part i k 1) word → IsTold p i (message_in i head word)
+abbrev pub BodiesTell : Rule LbtsView → Type 0
+BodiesTell rule = (p : Place LbtsView) (i k head word : ℕ) → i < p.own.federates → k < p.own.buffers → HasHead p i k head
+    → Told rule p (Part i k 1) word → IsTold p i (message_in i head word)
 
 -- a buffer may be released that is spent, or whose message waits and is timed below the known bound
 pub record MaySettle (p : Place LbtsView) (i k : ℕ) : Type 0 where
   pub waits : list_any (waits_in i k) p.client.queue ≡ true
   pub below : All (λ (e : Entry). waits_in i k e ≡ true → e.message.time < bound_of p.client) p.client.queue
 
-abbrev pub ReleasesKeep : Type 0
-ReleasesKeep = (p : Place LbtsView) (i k : ℕ) → i < p.own.federates → k < p.own.buffers → bit_at (slice_index p.own.stock.holds i) k ≡ 1
+abbrev pub ReleasesKeep : Rule LbtsView → Type 0
+ReleasesKeep rule = (p : Place LbtsView) (i k : ℕ) → i < p.own.federates → k < p.own.buffers → bit_at (slice_index p.own.stock.holds i) k ≡ 1
     → (list_any (is_spent i k) p.client.spent ≡ true) ⊎ MaySettle p i k
-    → Keeps lbts_rule progressed p (Count i k) (λ _. Released i k)
+    → Keeps rule progressed p (Count i k) (λ _. Released i k)
 
 -- the looks that tell the view nothing
-abbrev pub CountLooksKeep : Type 0
-CountLooksKeep = (p : Place LbtsView) (k : ℕ) → k < p.own.buffers → Keeps lbts_rule progressed p (Count p.own.number k) (λ count. SawFree k (count == 0))
+abbrev pub CountLooksKeep : Rule LbtsView → Type 0
+CountLooksKeep rule = (p : Place LbtsView) (k : ℕ) → k < p.own.buffers → Keeps rule progressed p (Count p.own.number k) (λ count. SawFree k (count == 0))
 
 -- what a queue's first buffer below the bound tells: the seat holds it, it may be released, and to give it up is
 -- to settle that entry alone
@@ -111,6 +111,6 @@ pub record MaySettleFirst (p : Place LbtsView) (below i k : ℕ) : Type 0 where
   pub may : MaySettle p i k
   pub queue : (put_down i k p.client).queue ≡ settled_first below p.client.queue
 
-abbrev pub SettlesTell : Type 0
-SettlesTell = (p : Place LbtsView) (below i k : ℕ) → below ≤ bound_of p.client → first_buffer below p.client.queue ≡ Some (i, k)
-    → (m : Memory) (places : List (Place LbtsView)) → World lbts_rule p m places → MaySettleFirst p below i k
+abbrev pub SettlesTell : Rule LbtsView → Type 0
+SettlesTell rule = (p : Place LbtsView) (below i k : ℕ) → below ≤ bound_of p.client → first_buffer below p.client.queue ≡ Some (i, k)
+    → (m : Memory) (places : List (Place LbtsView)) → World rule p m places → MaySettleFirst p below i k

@@ -4,18 +4,17 @@ use Rattle.kit_ground.specs.declared.address.Address.TheVariants.{Register, Stop
 use Rattle.kit_ground.specs.declared.address.Reg.{Reg}
 use Rattle.kit_ground.specs.declared.place.Deed.TheVariants.{Looked, SawStop, Stopped}
 use Rattle.kit_ground.specs.declared.place.Place.{Place}
-use Rattle.kit_ground.specs.Rules.{Keeps}
+use Rattle.kit_ground.specs.Rules.{Keeps, Rule}
 use Rattle.kit_lbts.specs.declared.view.LbtsView.{LbtsView}
 use Rattle.kit_lbts.specs.Progress.{progressed}
-use Rattle.kit_lbts.specs.Rule.{lbts_rule}
 
 -- a federate may look at any register at any time
-abbrev pub LooksKeep : Type 0
-LooksKeep = (p : Place LbtsView) (r : Reg) → Keeps lbts_rule progressed p (Register r) (λ word. Looked r word)
+abbrev pub LooksKeep : Rule LbtsView → Type 0
+LooksKeep rule = (p : Place LbtsView) (r : Reg) → Keeps rule progressed p (Register r) (λ word. Looked r word)
 
 -- and at the stop word, and set it
-abbrev pub StopLooksKeep : Type 0
-StopLooksKeep = (p : Place LbtsView) → Keeps lbts_rule progressed p Stop (λ word. SawStop (word == 1))
+abbrev pub StopLooksKeep : Rule LbtsView → Type 0
+StopLooksKeep rule = (p : Place LbtsView) → Keeps rule progressed p Stop (λ word. SawStop (word == 1))
 
-abbrev pub StopsKeep : Type 0
-StopsKeep = (p : Place LbtsView) → Keeps lbts_rule progressed p Stop (λ _. Stopped)
+abbrev pub StopsKeep : Rule LbtsView → Type 0
+StopsKeep rule = (p : Place LbtsView) → Keeps rule progressed p Stop (λ _. Stopped)

@@ -2,6 +2,8 @@
 //!
 //! Those of steps have the form that a call of the floor asks, with premises on the seat's own place alone.
 
+ghost use Rattle.kit_lbts.specs.Agreement.{agreeing_rule};
+ghost use Rattle.kit_lbts.specs.AgreementLaws.{MomentsAreSound, KnownBoundsBound, StartsAgree, AsidesAgree, OthersAgree, OpeningsAgree, ToldWithAgreement, EndsAreComplete, NextBlocksAgree, SpentAtGrants, SpentAtStarts, OutstandingIsNeeded};
 ghost use Rattle.kit_lbts.specs.LedgerLaws.{AsidesLeaveLedgers, PostsAre, ReceiptsAre, CollectsAre, ReadyIs, GrantsAre, ContributionsAre};
 ghost use Rattle.kit_lbts.specs.LookLaws.{LooksTeach, AllTaughtIsResult};
 ghost use Rattle.kit_lbts.specs.Openings.{OpeningsHold};
@@ -14,10 +16,10 @@ ghost use Rattle.kit_lbts.specs.MessageLaws.{WritesKeep, ChargesKeep, PostsKeep,
 /// How a message is sent: its words are written into a buffer that was seen free, the buffer is charged
 /// for all its receivers, and a copy is posted to each.
 pub fn messages_are_sent()
-    ensures looks { CountLooksKeep }
-    ensures writes { WritesKeep }
-    ensures charges { ChargesKeep }
-    ensures posts { PostsKeep }
+    ensures looks { CountLooksKeep agreeing_rule }
+    ensures writes { WritesKeep agreeing_rule }
+    ensures charges { ChargesKeep agreeing_rule }
+    ensures posts { PostsKeep agreeing_rule }
 {}
 
 /// How it comes: mail is collected, the heads of the copies in hand are read, and a copy is received with
@@ -25,17 +27,17 @@ pub fn messages_are_sent()
 ///
 /// What is received was posted to the reader, is timed after its last grant, and was not received before.
 pub fn messages_are_received()
-    ensures collects { CollectsKeep }
-    ensures heads { HeadsKeep }
-    ensures bodies { BodiesKeep }
-    ensures told { BodiesTell }
+    ensures collects { CollectsKeep agreeing_rule }
+    ensures heads { HeadsKeep agreeing_rule }
+    ensures bodies { BodiesKeep agreeing_rule }
+    ensures told { BodiesTell agreeing_rule }
 {}
 
 /// A buffer is released whose message is done with, or is timed below the known bound and waits on without
 /// it. The first of a queue that is timed below the bound is such a one, and is the only one that is settled.
 pub fn buffers_are_released()
-    ensures releases { ReleasesKeep }
-    ensures first { SettlesTell }
+    ensures releases { ReleasesKeep agreeing_rule }
+    ensures first { SettlesTell agreeing_rule }
 {}
 
 /// The rule holds on a new floor for the federates of a federation.
@@ -45,9 +47,9 @@ pub fn openings_hold()
 
 /// Looks at registers and at the stop word keep the rule, and so does the setting of the stop word.
 pub fn looks_keep_the_rule()
-    ensures looks { LooksKeep }
-    ensures stop_looks { StopLooksKeep }
-    ensures stops { StopsKeep }
+    ensures looks { LooksKeep agreeing_rule }
+    ensures stop_looks { StopLooksKeep agreeing_rule }
+    ensures stops { StopsKeep agreeing_rule }
 {}
 
 /// What each deed of a federate is to its ledger, by what it knows itself: a post, a receipt, a rise of its
@@ -89,13 +91,46 @@ pub fn looks_teach()
 /// A federate that has published all of its last round contributes to the next one. It publishes a value on
 /// the way once it has taken in what that needs, and the result once the round is closed.
 pub fn shares_are_published()
-    ensures contributions { ContributionsKeep }
-    ensures values { ValuesKeep }
-    ensures backs { BacksKeep }
+    ensures contributions { ContributionsKeep agreeing_rule }
+    ensures values { ValuesKeep agreeing_rule }
+    ensures backs { BacksKeep agreeing_rule }
 {}
 
 /// A federate that has nothing to post grants itself the time at which its request is due, where that is
 /// below the known bound and what is delivered needs no buffer any more.
 pub fn times_are_granted()
-    ensures { GrantsKeep }
+    ensures { GrantsKeep agreeing_rule }
+{}
+
+/// Where all federates agree with the simulation, a floor shows a sound moment of a run, and what a federate
+/// knows as a bound is one then.
+pub fn floors_show_moments()
+    ensures moments { MomentsAreSound }
+    ensures bounds { KnownBoundsBound }
+{}
+
+/// At the opening all federates agree with the simulation, and at the end each has made its whole part.
+/// With agreement the rule tells what it tells without.
+pub fn agreement_begins_and_ends()
+    ensures first { OpeningsAgree }
+    ensures told { ToldWithAgreement }
+    ensures end { EndsAreComplete }
+{}
+
+/// The next block of a federate that may be granted its due time is the simulation's. Where its numbers do
+/// not suffice for it, or for the start, they do not in the simulation; and what it has outstanding is
+/// not more than its need.
+pub fn next_blocks_are_known()
+    ensures next { NextBlocksAgree }
+    ensures spent { SpentAtGrants }
+    ensures spent_first { SpentAtStarts }
+    ensures outstanding { OutstandingIsNeeded }
+{}
+
+/// A federate goes on to agree with the simulation: by its start, and by any step but a grant that keeps the
+/// rule without agreement.
+pub fn federates_agree()
+    ensures starts { StartsAgree }
+    ensures asides { AsidesAgree }
+    ensures others { OthersAgree }
 {}

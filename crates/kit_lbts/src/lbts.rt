@@ -11,19 +11,20 @@ pub struct Opening {
 
 /// The rule of a federation on a floor.
 ///
-/// What a federate received was posted to it; its queue is what is pending of that; the rounds of the
-/// reduction are those of Mattern's coloured counts; registers show what was contributed.
+/// What a federate has in its queue and its journal was sent to it; the rounds of the reduction are those of
+/// Mattern's coloured counts; registers show what was contributed; and each federate agrees with the
+/// sequential simulation.
 pub struct Lbts;
 
 impl Protocol for Lbts {
-    ghost use Rattle.kit_lbts.specs.Rule.{lbts_rule};
+    ghost use Rattle.kit_lbts.specs.Agreement.{agreeing_rule};
     ghost use Rattle.kit_lbts.specs.Progress.{lbts_first};
 
     type View = LbtsView;
 
     type Opening = Opening;
 
-    ghost rule = { lbts_rule };
+    ghost rule = { agreeing_rule };
 
     ghost first = { lbts_first };
 }

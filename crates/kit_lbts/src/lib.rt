@@ -7,9 +7,10 @@ mod lbts;
 mod view;
 
 pub use laws::{
-    buffers_are_released, deeds_are_steps, looks_keep_the_rule, looks_teach, messages_are_received,
-    messages_are_sent, openings_hold, shares_are_published, shares_come_together,
-    steps_keep_rounds, times_are_granted,
+    agreement_begins_and_ends, buffers_are_released, deeds_are_steps, federates_agree,
+    floors_show_moments, looks_keep_the_rule, looks_teach, messages_are_received,
+    messages_are_sent, next_blocks_are_known, openings_hold, shares_are_published,
+    shares_come_together, steps_keep_rounds, times_are_granted,
 };
 pub use lbts::{Lbts, Opening, Progress};
 pub use view::{Filled, InHand, LbtsView, Noted, Orphan, Posting, Scheme, Spent};

@@ -1,5 +1,5 @@
-use Rattle.kit_lbts.proofs.GrantSteps.{grants_keep}
+use Rattle.kit_lbts.proofs.GrantAgreement.{grants_agree}
 use Rattle.kit_lbts.proofs.laws.times_are_granted.Goals as goal
 
 pub returns : goal.returns
-returns c = grants_keep
+returns c = grants_agree

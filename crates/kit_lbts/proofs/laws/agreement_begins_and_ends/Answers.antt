@@ -1,0 +1,11 @@
+use Rattle.kit_lbts.proofs.AgreementEnds.{openings_agree, told_with_agreement, ends_are_complete}
+use Rattle.kit_lbts.proofs.laws.agreement_begins_and_ends.Goals as goal
+
+pub returns-clause-first : goal.returns-clause-first
+returns-clause-first c = openings_agree
+
+pub returns-clause-told : goal.returns-clause-told
+returns-clause-told c = told_with_agreement
+
+pub returns-clause-end : goal.returns-clause-end
+returns-clause-end c = ends_are_complete
