@@ -8,7 +8,7 @@ use Rattle.kit_ground.specs.declared.address.Reg.{Reg}
 use Rattle.kit_ground.specs.declared.place.Deed.{Deed}
 use Rattle.kit_ground.specs.declared.place.Deed.TheVariants.{Looked, Published, Stopped, SawStop, SawFree, PostedTo}
 use Rattle.kit_ground.specs.declared.place.Place.{Place}
-use Rattle.kit_ground.specs.Memory.{Memory, stored}
+use Rattle.kit_ground.specs.Memory.{Memory, with_word}
 use Rattle.kit_ground.specs.Rules.{Keeps}
 use Rattle.kit_ground.specs.Steps.{becomes, stock_after}
 use Rattle.kit_ground.proofs.Memories.{stored_else, stored_same}
@@ -30,14 +30,14 @@ IsRead _ = ⊥
 
 -- what a step leaves, whatever word it finds
 pub record LeavesAll (p : P) (a : Address) (deed : ℕ → Deed) : Type 0 where
-  pub words : (m : Memory) (x : Address) → IsRead x → stored m a (becomes (deed (m a)) (m a)) x ≡ m x
+  pub words : (m : Memory) (x : Address) → IsRead x → with_word m a (becomes (deed (m a)) (m a)) x ≡ m x
   pub view : (found : ℕ) → delivered (deed found) p ≡ p.client
   pub holds : (found : ℕ) → (stock_after (deed found) p.own.stock).holds ≡ p.own.stock.holds
 
 pub aside : (p : P) (a : Address) (deed : ℕ → Deed) → LeavesAll p a deed → Keeps courier_rule delivered p a deed
 aside p a deed leaves m places w =
     let d : Deed = deed (m a) in
-    let now : Memory = stored m a (becomes d (m a)) in
+    let now : Memory = with_word m a (becomes d (m a)) in
     let view = leaves.view (m a) in
     let words : (i k x : ℕ) → i < length places → k < p.own.buffers → 0 < m (Count i k) → now (Part i k x) ≡ m (Part i k x) = λ i k x li lk on. leaves.words m (Part i k x) tt in
     let same = mine p m places w now d in
@@ -51,11 +51,11 @@ aside p a deed leaves m places w =
     (λ t has. same.got t (subst (λ (v : CourierView). Contains v.got t) view has)))
 
 -- a step that stores nothing
-pub finds : (a : Address) (deed : ℕ → Deed) → ((found : ℕ) → becomes (deed found) found ≡ found) → (m : Memory) (x : Address) → IsRead x → stored m a (becomes (deed (m a)) (m a)) x ≡ m x
-finds a deed same m x is = ap (λ (word : ℕ). stored m a word x) (same (m a)) ∙ (λ t. stored_same m a t x)
+pub finds : (a : Address) (deed : ℕ → Deed) → ((found : ℕ) → becomes (deed found) found ≡ found) → (m : Memory) (x : Address) → IsRead x → with_word m a (becomes (deed (m a)) (m a)) x ≡ m x
+finds a deed same m x is = ap (λ (word : ℕ). with_word m a word x) (same (m a)) ∙ (λ t. stored_same m a t x)
 
 -- a step on a word that the rule does not read
-pub elsewhere : (a : Address) (deed : ℕ → Deed) → (IsRead a → ⊥) → (m : Memory) (x : Address) → IsRead x → stored m a (becomes (deed (m a)) (m a)) x ≡ m x
+pub elsewhere : (a : Address) (deed : ℕ → Deed) → (IsRead a → ⊥) → (m : Memory) (x : Address) → IsRead x → with_word m a (becomes (deed (m a)) (m a)) x ≡ m x
 elsewhere a deed unread m x is = stored_else m a x (becomes (deed (m a)) (m a)) (λ e. unread (subst IsRead e is))
 
 learnt_aside : (r : Reg) (word : ℕ) (known : List ℕ) → r.slot ≢ 12 → learnt r word known ≡ known

@@ -10,8 +10,8 @@ use Rattle.kit_ground.specs.declared.address.Address.TheVariants.{Count, Part}
 use Rattle.kit_ground.specs.declared.place.Deed.{Deed}
 use Rattle.kit_ground.specs.declared.place.Place.{Place}
 use Rattle.kit_ground.specs.Memory.{Memory}
-use Rattle.kit_ground.specs.Rules.{Floored, World}
-use Rattle.kit_ground.specs.Steps.{acted}
+use Rattle.kit_ground.specs.Rules.{FloorHolds, World}
+use Rattle.kit_ground.specs.Steps.{place_after}
 use Rattle.kit_ground.proofs.Lists.{at_inside, at_map_or}
 use Rattle.kit_ground.proofs.PlaceFacts.{held_counted}
 use Rattle.kit_ground.proofs.PlaceSteps.{each_after}
@@ -47,7 +47,7 @@ sent_still places me p q at more i x has =
     (λ other. subst Has (sym (get_or-set_other lists me i q.client.sent [] other)) has))
 
 -- a seat that is reading a buffer is counted for it
-pub reading_counted : (b : ℕ) (m : Memory) (places : List P) → Floored b m places → (j : ℕ) (p : P) → get_elem? places j ≡ some p → (r : Reading) → IsReading m p.own r → 0 < m (Count r.from r.buffer)
+pub reading_counted : (b : ℕ) (m : Memory) (places : List P) → FloorHolds b m places → (j : ℕ) (p : P) → get_elem? places j ≡ some p → (r : Reading) → IsReading m p.own r → 0 < m (Count r.from r.buffer)
 reading_counted b m places floor j p at r h =
     let own = floor.each j p at in
     held_counted b m places floor j p at r.from r.buffer (subst (λ (n : ℕ). r.from < n) own.federates h.from) (subst (λ (k : ℕ). r.buffer < k) own.buffers h.buffer) h.held
@@ -59,13 +59,13 @@ pub record Leaves (m now : Memory) (n b : ℕ) : Type 0 where
 
 module _ (p : P) (m : Memory) (places : List P) (w : World courier_rule p m places) (now : Memory) (deed : Deed) where
   abbrev q : P
-  q = acted delivered deed p
+  q = place_after delivered deed p
 
   abbrev me : ℕ
   me = p.own.number
 
   abbrev new : List P
-  new = slice_set places p.own.number (acted delivered deed p)
+  new = slice_set places p.own.number (place_after delivered deed p)
 
   inside : p.own.number < length places
   inside = at_inside places p.own.number p w.here

@@ -7,7 +7,7 @@ use Rattle.kit_ground.specs.declared.address.Address.TheVariants.{Register}
 use Rattle.kit_ground.specs.declared.place.Deed.TheVariants.{Looked, Published}
 use Rattle.kit_ground.specs.declared.place.Place.{Place}
 use Rattle.kit_ground.specs.Guests.{GuestKeeps}
-use Rattle.kit_ground.specs.Memory.{Memory, stored}
+use Rattle.kit_ground.specs.Memory.{Memory, with_word}
 use Rattle.kit_ground.specs.Rules.{Keeps}
 use Rattle.kit_ground.proofs.Memories.{register_else, stored_here, stored_same}
 use Rattle.kit_courier.specs.declared.view.CourierView.{CourierView}
@@ -36,7 +36,7 @@ module _ (p : Place CourierView) where
   learns k m places w =
       let word : ℕ = m (Register (clock_of k)) in
       let deed = Looked (clock_of k) word in
-      let now : Memory = stored m (Register (clock_of k)) word in
+      let now : Memory = with_word m (Register (clock_of k)) word in
       let same : m ≡ now = sym (stored_same m (Register (clock_of k))) in
       let rule = mine p m places w now deed in
       let rises : (j : ℕ) → j < length places → clock m j ≤ clock now j = λ j lj. subst (λ (x : Memory). clock m j ≤ clock x j) same (le_refl (clock m j)) in
@@ -50,7 +50,7 @@ module _ (p : Place CourierView) where
   pub shows : (me word : ℕ) → me ≡ p.own.number → slice_index p.own.shown 12 ≤ word → Keeps courier_rule delivered p (Register (clock_of me)) (λ _. Published (clock_of me) word)
   shows me word is high m places w =
       let deed = Published (clock_of me) word in
-      let now : Memory = stored m (Register (clock_of me)) word in
+      let now : Memory = with_word m (Register (clock_of me)) word in
       let shown : clock m p.own.number ≡ slice_index p.own.shown 12 = (w.floor.each p.own.number p w.here).shows 12 (omega arith) in
       let rule = mine p m places w now deed in
       let rises : (j : ℕ) → j < length places → clock m j ≤ clock now j = λ j lj. dite (ℕ_discrete j me)

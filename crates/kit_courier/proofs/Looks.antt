@@ -8,8 +8,8 @@ use Rattle.kit_ground.specs.declared.address.Address.TheVariants.{Register}
 use Rattle.kit_ground.specs.declared.place.Deed.TheVariants.{Looked, Published}
 use Rattle.kit_ground.specs.declared.place.Glance.{Glance}
 use Rattle.kit_ground.specs.declared.place.Place.{Place}
-use Rattle.kit_ground.specs.Rules.{Told}
-use Rattle.kit_ground.specs.Steps.{acted, reg_index}
+use Rattle.kit_ground.specs.Rules.{WasFound}
+use Rattle.kit_ground.specs.Steps.{place_after, reg_index}
 use Rattle.kit_ground.proofs.WorldFacts.{few_federates, fits_here}
 use Rattle.kit_courier.specs.declared.view.CourierView.{CourierView}
 use Rattle.kit_courier.specs.Calls.{HasLooked, IsLeast, IsSameSeat, last_look}
@@ -57,9 +57,9 @@ own_skipped p n least q h own = record {
 }
 
 -- a look at the clock n
-module _ (p : P) (n least word : ℕ) (q : P) (h : HasSearched p n least q) (ln : n < p.own.federates) (other : n ≢ p.own.number) (t : Told courier_rule q (Register (clock_of n)) word) where
+module _ (p : P) (n least word : ℕ) (q : P) (h : HasSearched p n least q) (ln : n < p.own.federates) (other : n ≢ p.own.number) (t : WasFound courier_rule q (Register (clock_of n)) word) where
   abbrev now : P
-  now = acted delivered (Looked (clock_of n) word) q
+  now = place_after delivered (Looked (clock_of n) word) q
 
   abbrev known : List ℕ
   known = slice_set q.client.known n word
@@ -120,5 +120,5 @@ module _ (p : P) (n least word : ℕ) (q : P) (h : HasSearched p n least q) (ln 
   })
 
 -- the own clock is shown at the end
-pub shown_here : (q : P) (a : Address) (found k word : ℕ) → Told courier_rule q a found → slice_index (acted delivered (Published (clock_of k) word) q).own.shown 12 ≡ word
+pub shown_here : (q : P) (a : Address) (found k word : ℕ) → WasFound courier_rule q a found → slice_index (place_after delivered (Published (clock_of k) word) q).own.shown 12 ≡ word
 shown_here q a found k word t = let long = (fits_here courier_rule q t.0 t.1 t.2).shown in get_or-set_same q.own.shown 12 word 0 (omega arith)

@@ -3,7 +3,7 @@ use Rattle.std.proofs.Common.{◌≡◌, ℕ, ◌≤◌, [], length, sym, ap, �
 use Rattle.std.proofs.lemmas.List.{length-replicate}
 use Rattle.std.proofs.lemmas.Option.{none-some}
 use Rattle.std.specs.Prelude.{Contains, slice_index}
-use Rattle.kit_ground.specs.Rules.{blank, places_at_first}
+use Rattle.kit_ground.specs.Rules.{zero_memory, places_at_first}
 use Rattle.kit_ground.proofs.Lists.{same_everywhere}
 use Rattle.kit_ground.proofs.Starts.{client_at_first}
 use Rattle.kit_courier.specs.declared.view.CourierView.{CourierView}
@@ -20,7 +20,7 @@ module _ (n b : ℕ) where
   abbrev first : ℕ → CourierView
   first = courier_first tt
 
-  pub opens : courier_rule.holds blank (places_at_first first n b)
+  pub opens : courier_rule.holds zero_memory (places_at_first first n b)
   opens = record {
     clocks = record {
       each = λ j p at.

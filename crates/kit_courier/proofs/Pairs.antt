@@ -9,10 +9,10 @@ use lib.ListN.{get_elem?}
 use Rattle.kit_ground.specs.declared.address.Address.TheVariants.{Count, Mail}
 use Rattle.kit_ground.specs.declared.place.Deed.TheVariants.{Collected, PostedTo, SawFree}
 use Rattle.kit_ground.specs.declared.place.Place.{Place}
-use Rattle.kit_ground.specs.Coming.{Came, Did}
-use Rattle.kit_ground.specs.Floors.{Floor, Ruled, memory, opened, place_of}
-use Rattle.kit_ground.specs.Memory.{Memory, stored}
-use Rattle.kit_ground.specs.Rules.{blank, own_at_first}
+use Rattle.kit_ground.specs.Coming.{AreSteps, IsOneStep}
+use Rattle.kit_ground.specs.Floors.{Floor, RulesHold, memory, new_floor, place_of}
+use Rattle.kit_ground.specs.Memory.{Memory, with_word}
+use Rattle.kit_ground.specs.Rules.{zero_memory, own_at_first}
 use Rattle.kit_ground.specs.Steps.{mail_index}
 use Rattle.kit_ground.proofs.Bits.{joined_here}
 use Rattle.kit_ground.proofs.Layouts.{memory_blank}
@@ -52,7 +52,7 @@ only_letter true letter x has = ⊎_elim (λ none. absurd (nothing_in x none)) (
 only_letter false letter x has = absurd (nothing_in x has)
 
 -- f is new, the first has come to g, and then the second is seated
-module _ (f g h : F) (new : f ≡ opened courier_first tt 2 1) (first : Came courier_first f g) (seats : h ≡ record g { seated = 1 }) where
+module _ (f g h : F) (new : f ≡ new_floor courier_first tt 2 1) (first : AreSteps courier_first f g) (seats : h ≡ record g { seated = 1 }) where
   seated_first : f.seated ≡ 0
   seated_first = ap (λ (x : F). x.seated) new
 
@@ -68,7 +68,7 @@ module _ (f g h : F) (new : f ≡ opened courier_first tt 2 1) (first : Came cou
       (ap (λ (x : F). get_elem? x.places 1) seats ∙ (first.others 1 (λ e. let z : 1 ≡ f.seated = e in let s = seated_first in absurd (omega arith)) ∙ ap (λ (x : F). get_elem? x.places 1) new))
 
   -- the second has come to k
-  module _ (k : F) (second : Came courier_first h k) where
+  module _ (k : F) (second : AreSteps courier_first h k) where
     first_there : get_elem? k.places 0 ≡ some (at g)
     first_there = second.others 0 (λ e. let z : 0 ≡ h.seated = e in let s = seated_second in absurd (omega arith))
         ∙ (ap (λ (x : F). get_elem? x.places 0) seats ∙ seated_at courier_first g 0 (first.seated ∙ seated_first) (let t = two in omega arith))
@@ -80,7 +80,7 @@ module _ (f g h : F) (new : f ≡ opened courier_first tt 2 1) (first : Came cou
         seated_at courier_first k 1 (second.seated ∙ seated_second) (omega arith)
 
     -- what it got is the letter that the first sent
-    pub got_is_sent : (t : Bool) (letter got : Letter) → Ruled courier_rule k → (at g).client.sent ≡ (if t then (at f).client.sent ++ letter ∷ [] else (at f).client.sent) → IsReceived (at h) 0 0 got (at k) → got ≡ letter
+    pub got_is_sent : (t : Bool) (letter got : Letter) → RulesHold courier_rule k → (at g).client.sent ≡ (if t then (at f).client.sent ++ letter ∷ [] else (at f).client.sent) → IsReceived (at h) 0 0 got (at k) → got ≡ letter
     got_is_sent t letter got ruled sent received =
         let receipt : Receipt = record { from = 0; letter = got } in
         let has : Contains (at k).client.got receipt = subst (λ (l : List Receipt). Contains l receipt) (sym received.got) (Contains-push (at h).client.got receipt) in
@@ -93,20 +93,20 @@ pub first_mail : (m : ℕ) → mail_index m 0 0 ≡ 0
 first_mail m = omega arith
 
 -- a new floor's first look finds its buffer free
-pub free_at_first : (f g : F) (t : Bool) → f ≡ opened courier_first tt 2 1 → Did courier_first f (SawFree 0 t) g → t ≡ true
+pub free_at_first : (f g : F) (t : Bool) → f ≡ new_floor courier_first tt 2 1 → IsOneStep courier_first f (SawFree 0 t) g → t ≡ true
 free_at_first f g t new did =
-    let zeros : memory f ≡ blank = ap memory new ∙ memory_blank 2 1 in
+    let zeros : memory f ≡ zero_memory = ap memory new ∙ memory_blank 2 1 in
     did.step.allowed.2 ∙ ap (λ (m : Memory). m (Count (at f).own.number 0) == 0) zeros
 
 -- after the first posted its buffer, the second's mail has its bit
-pub mail_has : (g k : F) → (at g).own.number ≡ 0 → Did courier_first g (PostedTo 0 1) k → bit_at (memory k (Mail 1 0 0)) 0 ≡ 1
+pub mail_has : (g k : F) → (at g).own.number ≡ 0 → IsOneStep courier_first g (PostedTo 0 1) k → bit_at (memory k (Mail 1 0 0)) 0 ≡ 1
 mail_has g k zero did =
     let was : ℕ = memory g (Mail 1 (at g).own.number 0) in
-    let now = did.step.stores ∙ (λ i. stored (memory g) (Mail 1 (zero i) 0) (bit_or was (2 ^ 0))) in
+    let now = did.step.stores ∙ (λ i. with_word (memory g) (Mail 1 (zero i) 0) (bit_or was (2 ^ 0))) in
     ap (λ (m : Memory). bit_at (m (Mail 1 0 0)) 0) now ∙ (ap (λ (v : ℕ). bit_at v 0) (stored_here (memory g) (Mail 1 0 0) (bit_or was (2 ^ 0))) ∙ joined_here was 0)
 
 -- so what the second collects is not 0
-pub not_none : (h k : F) (mail : ℕ) (o : Option Letter) → (at h).own.number ≡ 1 → bit_at (memory h (Mail 1 0 0)) 0 ≡ 1 → Did courier_first h (Collected 0 0 mail) k → (o ≡ None → mail ≡ 0) → o ≡ None → ⊥
+pub not_none : (h k : F) (mail : ℕ) (o : Option Letter) → (at h).own.number ≡ 1 → bit_at (memory h (Mail 1 0 0)) 0 ≡ 1 → IsOneStep courier_first h (Collected 0 0 mail) k → (o ≡ None → mail ≡ 0) → o ≡ None → ⊥
 not_none h k mail o one on did none e =
     let found : mail ≡ memory h (Mail 1 0 0) = did.step.allowed.3 ∙ ap (λ (j : ℕ). memory h (Mail j 0 0)) one in
     let off : bit_at mail 0 ≡ 0 = ap (λ (m : ℕ). bit_at m 0) (none e) ∙ bit_at-zero 0 in

@@ -10,9 +10,9 @@ use Rattle.kit_ground.specs.declared.place.Deed.TheVariants.{Collected, ReadPart
 use Rattle.kit_ground.specs.declared.place.Glance.{Glance}
 use Rattle.kit_ground.specs.declared.place.Place.{Place}
 use Rattle.kit_ground.specs.Memory.{Memory}
-use Rattle.kit_ground.specs.Rules.{Told, World}
+use Rattle.kit_ground.specs.Rules.{WasFound, World}
 use Rattle.kit_ground.specs.Layout.{mail_words}
-use Rattle.kit_ground.specs.Steps.{acted, mail_mask}
+use Rattle.kit_ground.specs.Steps.{place_after, mail_mask}
 use Rattle.kit_ground.proofs.Bits.{flipped_else, flipped_here}
 use Rattle.kit_ground.proofs.MailWords.{mask_here}
 use Rattle.kit_ground.proofs.WorldFacts.{fits_here, holds_long, mail_is_of_buffers}
@@ -28,27 +28,27 @@ P = Place CourierView
 
 -- what a collect tells of the seat's lists, and of the buffers that were posted
 module _ (p : P) (from : ℕ) (inside : from < p.own.federates) where
-  pub in_holds : {a : Address} {word : ℕ} → Told courier_rule p a word → from < length p.own.stock.holds
+  pub in_holds : {a : Address} {word : ℕ} → WasFound courier_rule p a word → from < length p.own.stock.holds
   in_holds t = let long = holds_long courier_rule p t.0 t.1 t.2 in omega arith
 
   module _ (w : ℕ) (there : w < mail_words p.own.buffers) where
     in_words : (n : ℕ) → p.own.federates ≡ n → place_of_mail p from w < mail_words p.own.buffers * n
     in_words n many = mul-add-lt from (mail_words p.own.buffers) w n (omega arith) there
 
-    pub in_mail : {a : Address} {word : ℕ} → Told courier_rule p a word → place_of_mail p from w < length p.own.mail
+    pub in_mail : {a : Address} {word : ℕ} → WasFound courier_rule p a word → place_of_mail p from w < length p.own.mail
     in_mail t = let h = fits_here courier_rule p t.0 t.1 t.2 in subst (λ (x : ℕ). place_of_mail p from w < x) (sym h.mail) (in_words (length t.1) h.federates)
 
-    pub collects_once : {a : Address} {word : ℕ} → Told courier_rule p a word → (mail : ℕ) → HasCollected p from w (acted delivered (Collected from w mail) p)
+    pub collects_once : {a : Address} {word : ℕ} → WasFound courier_rule p a word → (mail : ℕ) → HasCollected p from w (place_after delivered (Collected from w mail) p)
     collects_once t mail =
         let h = fits_here courier_rule p t.0 t.1 t.2 in
         get_or-set_same p.own.collects (place_of_mail p from w) (slice_index p.own.collects (place_of_mail p from w) + 1) 0
         (subst (λ (x : ℕ). place_of_mail p from w < x) (sym h.collects) (in_words (length t.1) h.federates))
 
-pub in_buffers : (p : P) (from w low : ℕ) → from < p.own.federates → {mail : ℕ} → bit_at mail low ≡ 1 → Told courier_rule p (Mail p.own.number from w) mail → 64 * w + low < p.own.buffers
+pub in_buffers : (p : P) (from w low : ℕ) → from < p.own.federates → {mail : ℕ} → bit_at mail low ≡ 1 → WasFound courier_rule p (Mail p.own.number from w) mail → 64 * w + low < p.own.buffers
 in_buffers p from w low inside on t = (mail_is_of_buffers courier_rule p t.0 t.1 t.2 from w low inside (ap (λ (v : ℕ). bit_at v low) t.3 ∙ on)).1
 
 -- a letter whose body was found was sent
-pub told_sent : (p : P) (from k head body : ℕ) → p.client.reading ≡ Some (record { from = from; buffer = k; head = head }) → Told courier_rule p (Part from k 1) body
+pub told_sent : (p : P) (from k head body : ℕ) → p.client.reading ≡ Some (record { from = from; buffer = k; head = head }) → WasFound courier_rule p (Part from k 1) body
     → (m : Memory) × (places : List P) × World courier_rule p m places × Contains (sent_by places from) (record { head = head; body = body })
 told_sent p from k head body reading t =
     let has = read_was_sent p t.0 t.1 t.2 from k head reading in
@@ -60,16 +60,16 @@ module _ (p : P) (from w mail low head body : ℕ) where
   k = 64 * w + low
 
   abbrev pub after_collect : P
-  after_collect = acted delivered (Collected from w mail) p
+  after_collect = place_after delivered (Collected from w mail) p
 
   abbrev pub with_head : P
-  with_head = acted delivered (ReadPart from k 0 head) after_collect
+  with_head = place_after delivered (ReadPart from k 0 head) after_collect
 
   abbrev pub with_body : P
-  with_body = acted delivered (ReadPart from k 1 body) with_head
+  with_body = place_after delivered (ReadPart from k 1 body) with_head
 
   abbrev pub after_release : P
-  after_release = acted delivered (Released from k) with_body
+  after_release = place_after delivered (Released from k) with_body
 
   module _ (wide : from < length p.own.stock.holds) (on : bit_at mail low ≡ 1) where
     abbrev mask : ℕ
@@ -107,7 +107,7 @@ module _ (p : P) (from w mail low head body : ℕ) where
             ∙ (flipped_else (held_of after_collect from) k i other ∙ ap (λ (v : ℕ). bit_at v i) (holds_all ∙ ap (λ (v : ℕ). bit_or (held_of p from) (mail_mask w v)) (sym mail_seen)));
       }
 
-      pub arrives : Told courier_rule with_head (Part from k 1) body → IsReceived p from w (record { head = head; body = body }) after_release
+      pub arrives : WasFound courier_rule with_head (Part from k 1) body → IsReceived p from w (record { head = head; body = body }) after_release
       arrives t = record {
         got = refl;
         sent = record { seat = with_head; number = refl; since = omega arith; until = omega arith; world = told_sent with_head from k head body refl t };

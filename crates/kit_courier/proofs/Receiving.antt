@@ -12,7 +12,7 @@ use lib.ListN.{get_elem?}
 use Rattle.kit_ground.specs.declared.address.Address.TheVariants.{Mail, Count, Part}
 use Rattle.kit_ground.specs.declared.place.Deed.TheVariants.{Collected, ReadPart, Released}
 use Rattle.kit_ground.specs.declared.place.Place.{Place}
-use Rattle.kit_ground.specs.Memory.{Memory, stored}
+use Rattle.kit_ground.specs.Memory.{Memory, with_word}
 use Rattle.kit_ground.specs.Rules.{Keeps, World}
 use Rattle.kit_ground.specs.Steps.{becomes, mail_mask}
 use Rattle.kit_ground.proofs.HeldMasks.{held_less, held_more}
@@ -67,7 +67,7 @@ module _ (p : P) where
       let me : ℕ = p.own.number in
       let mail : ℕ = m (Mail me from word) in
       let deed = Collected from word mail in
-      let now : Memory = stored m (Mail me from word) 0 in
+      let now : Memory = with_word m (Mail me from word) 0 in
       let rule = mine p m places w now deed in
       let here = w.floor.each me p w.here in
       let wide : length p.own.stock.holds ≡ length places = holds_wide p.own.buffers m places w.floor me p w.here in
@@ -83,7 +83,7 @@ module _ (p : P) where
   reads_head i k li lk held m places w =
       let word : ℕ = m (Part i k 0) in
       let deed = ReadPart i k 0 word in
-      let now : Memory = stored m (Part i k 0) word in
+      let now : Memory = with_word m (Part i k 0) word in
       let same : (a b x : ℕ) → now (Part a b x) ≡ m (Part a b x) = λ a b x t. stored_same m (Part i k 0) t (Part a b x) in
       let begun : Reading = record { from = i; buffer = k; head = word } in
       let rule = mine p m places w now deed in
@@ -98,7 +98,7 @@ module _ (p : P) where
   reads_body i k head reading m places w =
       let word : ℕ = m (Part i k 1) in
       let deed = ReadPart i k 1 word in
-      let now : Memory = stored m (Part i k 1) word in
+      let now : Memory = with_word m (Part i k 1) word in
       let same : (a b x : ℕ) → now (Part a b x) ≡ m (Part a b x) = λ a b x t. stored_same m (Part i k 1) t (Part a b x) in
       let receipt : Receipt = record { from = i; letter = record { head = head; body = word } } in
       let rule = mine p m places w now deed in
@@ -115,7 +115,7 @@ module _ (p : P) where
       let me : ℕ = p.own.number in
       let deed = Released i k in
       let count : ℕ = becomes deed (m (Count i k)) in
-      let now : Memory = stored m (Count i k) count in
+      let now : Memory = with_word m (Count i k) count in
       let rule = mine p m places w now deed in
       let here = w.floor.each me p w.here in
       let wide : length p.own.stock.holds ≡ length places = holds_wide p.own.buffers m places w.floor me p w.here in

@@ -7,7 +7,7 @@ use native.Mathlib.Decide.{ℕ_discrete}
 use Rattle.kit_ground.specs.declared.address.Address.TheVariants.{Count, Part}
 use Rattle.kit_ground.specs.declared.place.Deed.TheVariants.{Wrote, Charged}
 use Rattle.kit_ground.specs.declared.place.Place.{Place}
-use Rattle.kit_ground.specs.Memory.{Memory, stored}
+use Rattle.kit_ground.specs.Memory.{Memory, with_word}
 use Rattle.kit_ground.specs.Rules.{Keeps}
 use Rattle.kit_ground.specs.Steps.{becomes, buffer_of}
 use Rattle.kit_ground.proofs.Memories.{count_else, part_else}
@@ -26,7 +26,7 @@ module _ (p : Place CourierView) where
   writes k x word lk free m places w =
       let me : ℕ = p.own.number in
       let deed = Wrote k x word in
-      let now : Memory = stored m (Part me k x) word in
+      let now : Memory = with_word m (Part me k x) word in
       let none : m (Count me k) ≡ 0 = free_uncounted p.own.buffers m places w.floor me p w.here k lk free in
       let apart : (i y : ℕ) → 0 < m (Count i y) → i ≡ me → y ≢ k = λ i y on a e. let z : m (Count i y) ≡ 0 = (λ t. m (Count (a t) (e t))) ∙ none in absurd (omega arith) in
       let words : (i y z : ℕ) → i < length places → y < p.own.buffers → 0 < m (Count i y) → now (Part i y z) ≡ m (Part i y z) = λ i y z li ly on. part_else m me k x i y z word (λ a e. absurd (apart i y on a e)) in
@@ -42,7 +42,7 @@ module _ (p : Place CourierView) where
       let me : ℕ = p.own.number in
       let deed = Charged k mask in
       let count : ℕ = becomes deed (m (Count me k)) in
-      let now : Memory = stored m (Count me k) count in
+      let now : Memory = with_word m (Count me k) count in
       let letter : Letter = letter_of (buffer_of p.own.stock k) in
       let words : (i y z : ℕ) → i < length places → y < p.own.buffers → 0 < m (Count i y) → now (Part i y z) ≡ m (Part i y z) = λ i y z li ly on. refl in
       let more : (l : Letter) → Contains p.client.sent l → Contains (p.client.sent ++ letter ∷ []) l = λ l has. Contains-append_left p.client.sent (letter ∷ []) l has in

@@ -11,11 +11,11 @@ use Rattle.kit_ground.specs.declared.address.Address.{Address}
 use Rattle.kit_ground.specs.declared.place.Buffer.{Buffer}
 use Rattle.kit_ground.specs.declared.place.Deed.TheVariants.{SawFree, Wrote, Charged, PostedTo}
 use Rattle.kit_ground.specs.declared.place.Glance.{Glance}
-use Rattle.kit_ground.specs.declared.place.Own.{Own}
+use Rattle.kit_ground.specs.declared.place.SeatState.{SeatState}
 use Rattle.kit_ground.specs.declared.place.Place.{Place}
-use Rattle.kit_ground.specs.declared.place.Stock.{Stock}
-use Rattle.kit_ground.specs.Rules.{Told}
-use Rattle.kit_ground.specs.Steps.{IsChargeable, IsMask, acted, buffer_of, charged, posted_to, seen, untouched, with_buffer, written}
+use Rattle.kit_ground.specs.declared.place.SeatBuffers.{SeatBuffers}
+use Rattle.kit_ground.specs.Rules.{WasFound}
+use Rattle.kit_ground.specs.Steps.{IsChargeable, IsMask, place_after, buffer_of, buffer_after_charge, buffer_after_post, buffer_after_look, fresh_buffer, with_buffer, buffer_after_write}
 use Rattle.kit_ground.proofs.WorldFacts.{buffers_long, fits_here}
 use Rattle.kit_courier.specs.declared.view.CourierView.{CourierView}
 use Rattle.kit_courier.specs.declared.view.Letter.{Letter}
@@ -27,29 +27,29 @@ abbrev P : Type 0
 P = Place CourierView
 
 -- the buffer that was changed
-changed_here : (s : Stock) (k : ℕ) (c : Buffer) → k < length s.buffers → buffer_of (with_buffer k c s) k ≡ c
-changed_here s k c lk = get_or-set_same s.buffers k c untouched lk
+changed_here : (s : SeatBuffers) (k : ℕ) (c : Buffer) → k < length s.buffers → buffer_of (with_buffer k c s) k ≡ c
+changed_here s k c lk = get_or-set_same s.buffers k c fresh_buffer lk
 
 -- what a step tells of the seat's own buffers
-pub in_stock : (p : P) (k : ℕ) → k < p.own.buffers → {a : Address} {word : ℕ} → Told courier_rule p a word → k < length p.own.stock.buffers
+pub in_stock : (p : P) (k : ℕ) → k < p.own.buffers → {a : Address} {word : ℕ} → WasFound courier_rule p a word → k < length p.own.stock.buffers
 in_stock p k lk t = let long = buffers_long courier_rule p t.0 t.1 t.2 in omega arith
 
-pub in_counts : (p : P) (k : ℕ) → k < p.own.buffers → {a : Address} {word : ℕ} → Told courier_rule p a word → k < length p.own.counts
+pub in_counts : (p : P) (k : ℕ) → k < p.own.buffers → {a : Address} {word : ℕ} → WasFound courier_rule p a word → k < length p.own.counts
 in_counts p k lk t = let long = (fits_here courier_rule p t.0 t.1 t.2).counts in omega arith
 
 -- a look at a buffer's count
-pub sees : (p : P) (k : ℕ) (free : Bool) → k < length p.own.counts → HasSeen p k free (acted delivered (SawFree k free) p)
+pub sees : (p : P) (k : ℕ) (free : Bool) → k < length p.own.counts → HasSeen p k free (place_after delivered (SawFree k free) p)
 sees p k free lk =
     let glance : Glance Bool = record { step = p.own.steps + 1; gave = free } in
-    let is : last_count (acted delivered (SawFree k free) p) k ≡ glance = get_or-set_same p.own.counts k glance (record { step = 0; gave = false }) lk in
+    let is : last_count (place_after delivered (SawFree k free) p) k ≡ glance = get_or-set_same p.own.counts k glance (record { step = 0; gave = false }) lk in
     record { since = subst (λ (s : Glance Bool). p.own.steps < s.step) (sym is) (omega arith); found = ap (λ (s : Glance Bool). s.gave) is }
 
 -- the others
-changed_else : (s : Stock) (k : ℕ) (c : Buffer) (x : ℕ) → x ≢ k → buffer_of (with_buffer k c s) x ≡ buffer_of s x
-changed_else s k c x other = get_or-set_other s.buffers k x c untouched other
+changed_else : (s : SeatBuffers) (k : ℕ) (c : Buffer) (x : ℕ) → x ≢ k → buffer_of (with_buffer k c s) x ≡ buffer_of s x
+changed_else s k c x other = get_or-set_other s.buffers k x c fresh_buffer other
 
 -- the mask of one other federate
-pub only_mask : (o : Own) (j : ℕ) → j < o.federates → j ≢ o.number → IsMask o (2 ^ j)
+pub only_mask : (o : SeatState) (j : ℕ) → j < o.federates → j ≢ o.number → IsMask o (2 ^ j)
 only_mask o j inside other = (
   λ zero. let one = bit_at-pow_same j in let none : bit_at (2 ^ j) j ≡ 0 = ap (λ (mask : ℕ). bit_at mask j) zero ∙ bit_at-zero j in absurd (omega arith),
   pow-lt inside,
@@ -58,41 +58,41 @@ only_mask o j inside other = (
 
 module _ (p : P) (k : ℕ) (letter : Letter) (j : ℕ) where
   abbrev pub seen_free : P
-  seen_free = acted delivered (SawFree k true) p
+  seen_free = place_after delivered (SawFree k true) p
 
   abbrev pub with_head : P
-  with_head = acted delivered (Wrote k 0 letter.head) seen_free
+  with_head = place_after delivered (Wrote k 0 letter.head) seen_free
 
   abbrev pub with_body : P
-  with_body = acted delivered (Wrote k 1 letter.body) with_head
+  with_body = place_after delivered (Wrote k 1 letter.body) with_head
 
   abbrev pub after_charge : P
-  after_charge = acted delivered (Charged k (2 ^ j)) with_body
+  after_charge = place_after delivered (Charged k (2 ^ j)) with_body
 
   abbrev pub after_post : P
-  after_post = acted delivered (PostedTo k j) after_charge
+  after_post = place_after delivered (PostedTo k j) after_charge
 
   module _ (lk : k < length p.own.stock.buffers) where
-    buffer_seen : buffer_of seen_free.own.stock k ≡ seen true (buffer_of p.own.stock k)
-    buffer_seen = changed_here p.own.stock k (seen true (buffer_of p.own.stock k)) lk
+    buffer_seen : buffer_of seen_free.own.stock k ≡ buffer_after_look true (buffer_of p.own.stock k)
+    buffer_seen = changed_here p.own.stock k (buffer_after_look true (buffer_of p.own.stock k)) lk
 
     pub free_seen : (buffer_of seen_free.own.stock k).free ≡ true
     free_seen = ap (λ (c : Buffer). c.free) buffer_seen
 
     lk1 : k < length seen_free.own.stock.buffers
-    lk1 = let e : length seen_free.own.stock.buffers ≡ length p.own.stock.buffers = length-set p.own.stock.buffers k (seen true (buffer_of p.own.stock k)) in omega arith
+    lk1 = let e : length seen_free.own.stock.buffers ≡ length p.own.stock.buffers = length-set p.own.stock.buffers k (buffer_after_look true (buffer_of p.own.stock k)) in omega arith
 
-    buffer_head : buffer_of with_head.own.stock k ≡ written 0 letter.head (buffer_of seen_free.own.stock k)
-    buffer_head = changed_here seen_free.own.stock k (written 0 letter.head (buffer_of seen_free.own.stock k)) lk1
+    buffer_head : buffer_of with_head.own.stock k ≡ buffer_after_write 0 letter.head (buffer_of seen_free.own.stock k)
+    buffer_head = changed_here seen_free.own.stock k (buffer_after_write 0 letter.head (buffer_of seen_free.own.stock k)) lk1
 
     pub free_head : (buffer_of with_head.own.stock k).free ≡ true
     free_head = ap (λ (c : Buffer). c.free) buffer_head ∙ free_seen
 
     lk2 : k < length with_head.own.stock.buffers
-    lk2 = let e : length with_head.own.stock.buffers ≡ length seen_free.own.stock.buffers = length-set seen_free.own.stock.buffers k (written 0 letter.head (buffer_of seen_free.own.stock k)) in let l = lk1 in omega arith
+    lk2 = let e : length with_head.own.stock.buffers ≡ length seen_free.own.stock.buffers = length-set seen_free.own.stock.buffers k (buffer_after_write 0 letter.head (buffer_of seen_free.own.stock k)) in let l = lk1 in omega arith
 
-    buffer_body : buffer_of with_body.own.stock k ≡ written 1 letter.body (buffer_of with_head.own.stock k)
-    buffer_body = changed_here with_head.own.stock k (written 1 letter.body (buffer_of with_head.own.stock k)) lk2
+    buffer_body : buffer_of with_body.own.stock k ≡ buffer_after_write 1 letter.body (buffer_of with_head.own.stock k)
+    buffer_body = changed_here with_head.own.stock k (buffer_after_write 1 letter.body (buffer_of with_head.own.stock k)) lk2
 
     pub chargeable : IsChargeable with_body.own k
     chargeable = (ap (λ (c : Buffer). c.free) buffer_body ∙ free_head, ap (λ (c : Buffer). c.has_head) buffer_body ∙ ap (λ (c : Buffer). c.has_head) buffer_head, ap (λ (c : Buffer). c.has_body) buffer_body)
@@ -104,30 +104,30 @@ module _ (p : P) (k : ℕ) (letter : Letter) (j : ℕ) where
     sent_whole = ap (λ (l : Letter). p.client.sent ++ l ∷ []) written_whole
 
     lk3 : k < length with_body.own.stock.buffers
-    lk3 = let e : length with_body.own.stock.buffers ≡ length with_head.own.stock.buffers = length-set with_head.own.stock.buffers k (written 1 letter.body (buffer_of with_head.own.stock k)) in let l = lk2 in omega arith
+    lk3 = let e : length with_body.own.stock.buffers ≡ length with_head.own.stock.buffers = length-set with_head.own.stock.buffers k (buffer_after_write 1 letter.body (buffer_of with_head.own.stock k)) in let l = lk2 in omega arith
 
-    buffer_charged : buffer_of after_charge.own.stock k ≡ charged (2 ^ j) (buffer_of with_body.own.stock k)
-    buffer_charged = changed_here with_body.own.stock k (charged (2 ^ j) (buffer_of with_body.own.stock k)) lk3
+    buffer_charged : buffer_of after_charge.own.stock k ≡ buffer_after_charge (2 ^ j) (buffer_of with_body.own.stock k)
+    buffer_charged = changed_here with_body.own.stock k (buffer_after_charge (2 ^ j) (buffer_of with_body.own.stock k)) lk3
 
     pub owed : (buffer_of after_charge.own.stock k).to_post ≡ 2 ^ j
     owed = ap (λ (c : Buffer). c.to_post) buffer_charged
 
     lk4 : k < length after_charge.own.stock.buffers
-    lk4 = let e : length after_charge.own.stock.buffers ≡ length with_body.own.stock.buffers = length-set with_body.own.stock.buffers k (charged (2 ^ j) (buffer_of with_body.own.stock k)) in let l = lk3 in omega arith
+    lk4 = let e : length after_charge.own.stock.buffers ≡ length with_body.own.stock.buffers = length-set with_body.own.stock.buffers k (buffer_after_charge (2 ^ j) (buffer_of with_body.own.stock k)) in let l = lk3 in omega arith
 
-    buffer_posted : buffer_of after_post.own.stock k ≡ posted_to j (buffer_of after_charge.own.stock k)
-    buffer_posted = changed_here after_charge.own.stock k (posted_to j (buffer_of after_charge.own.stock k)) lk4
+    buffer_posted : buffer_of after_post.own.stock k ≡ buffer_after_post j (buffer_of after_charge.own.stock k)
+    buffer_posted = changed_here after_charge.own.stock k (buffer_after_post j (buffer_of after_charge.own.stock k)) lk4
 
     pub none_owed : (buffer_of after_post.own.stock k).to_post ≡ 0
     none_owed = ap (λ (c : Buffer). c.to_post) buffer_posted ∙ (ap (λ (mask : ℕ). bit_xor mask (2 ^ j)) owed ∙ xor_self (2 ^ j))
 
     others_as_before : (x : ℕ) → x ≢ k → buffer_of after_post.own.stock x ≡ buffer_of p.own.stock x
     others_as_before x other =
-        changed_else after_charge.own.stock k (posted_to j (buffer_of after_charge.own.stock k)) x other
-        ∙ (changed_else with_body.own.stock k (charged (2 ^ j) (buffer_of with_body.own.stock k)) x other
-        ∙ (changed_else with_head.own.stock k (written 1 letter.body (buffer_of with_head.own.stock k)) x other
-        ∙ (changed_else seen_free.own.stock k (written 0 letter.head (buffer_of seen_free.own.stock k)) x other
-        ∙ changed_else p.own.stock k (seen true (buffer_of p.own.stock k)) x other)))
+        changed_else after_charge.own.stock k (buffer_after_post j (buffer_of after_charge.own.stock k)) x other
+        ∙ (changed_else with_body.own.stock k (buffer_after_charge (2 ^ j) (buffer_of with_body.own.stock k)) x other
+        ∙ (changed_else with_head.own.stock k (buffer_after_write 1 letter.body (buffer_of with_head.own.stock k)) x other
+        ∙ (changed_else seen_free.own.stock k (buffer_after_write 0 letter.head (buffer_of seen_free.own.stock k)) x other
+        ∙ changed_else p.own.stock k (buffer_after_look true (buffer_of p.own.stock k)) x other)))
 
     -- what was charged is posted
     pub owed_after_post : (buffer_of p.own.stock k).to_post ≡ 0 → OwesTheSame p after_post

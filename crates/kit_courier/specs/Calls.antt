@@ -7,7 +7,7 @@ use Rattle.kit_ground.specs.declared.place.Place.{Place}
 use Rattle.kit_ground.specs.Layout.{mail_words}
 use Rattle.kit_ground.specs.Memory.{Memory}
 use Rattle.kit_ground.specs.Rules.{World}
-use Rattle.kit_ground.specs.Steps.{acted, buffer_of, mail_index, mail_mask, reg_index}
+use Rattle.kit_ground.specs.Steps.{place_after, buffer_of, mail_index, mail_mask, reg_index}
 use Rattle.kit_courier.specs.declared.view.CourierView.{CourierView}
 use Rattle.kit_courier.specs.declared.view.Letter.{Letter}
 use Rattle.kit_courier.specs.Couriers.{courier_rule}
@@ -50,7 +50,7 @@ pub record HasSeen (p : Place CourierView) (k : ℕ) (free : Bool) (q : Place Co
 pub record IsPosted (k j : ℕ) (q : Place CourierView) : Type 0 where
   pub before : Place CourierView
   pub owed : (buffer_of before.own.stock k).to_post ≡ 2 ^ j
-  pub step : q ≡ acted delivered (PostedTo k j) before
+  pub step : q ≡ place_after delivered (PostedTo k j) before
 
 -- at a step of the seat between p and q there was a world in which the federate `from` had sent the letter
 pub record WasSent (p : Place CourierView) (from : ℕ) (letter : Letter) (q : Place CourierView) : Type 0 where

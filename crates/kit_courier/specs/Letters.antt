@@ -4,7 +4,7 @@ use Rattle.std.specs.Int.{bit_at}
 use mathlib.Core.Option.{some}
 use lib.ListN.{get_elem?}
 use Rattle.kit_ground.specs.declared.address.Address.TheVariants.{Count, Part}
-use Rattle.kit_ground.specs.declared.place.Own.{Own}
+use Rattle.kit_ground.specs.declared.place.SeatState.{SeatState}
 use Rattle.kit_ground.specs.declared.place.Place.{Place}
 use Rattle.kit_ground.specs.Memory.{Memory}
 use Rattle.kit_courier.specs.declared.view.CourierView.{CourierView}
@@ -24,7 +24,7 @@ abbrev pub sent_by : List (Place CourierView) → ℕ → List Letter
 sent_by places i = slice_index_or (map sent_of places) i []
 
 -- a seat holds the buffer that it is reading, and read its head
-pub record IsReading (m : Memory) (o : Own) (r : Reading) : Type 0 where
+pub record IsReading (m : Memory) (o : SeatState) (r : Reading) : Type 0 where
   pub from : r.from < o.federates
   pub buffer : r.buffer < o.buffers
   pub held : bit_at (slice_index o.stock.holds r.from) r.buffer ≡ 1

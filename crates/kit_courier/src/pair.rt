@@ -1,5 +1,5 @@
 ghost use Rattle.std.specs.Prelude.{◌≡◌, ℕ, ◌++◌, map, option_to_list, replicate, slice_index, IfOk, Some};
-ghost use Rattle.kit_ground.specs.Floors.{opened, place_of};
+ghost use Rattle.kit_ground.specs.Floors.{new_floor, place_of};
 ghost use Rattle.kit_courier.specs.Deliveries.{courier_first};
 
 use crate::{Couriers, Letter, receive, send};
@@ -8,7 +8,7 @@ use std::alloc::{AllocError, Global};
 
 /// The first federate of a new floor sends a letter to the second, which receives what came.
 pub fn hand_over(floor: &mut PlainFloor<Couriers>, letter: Letter) -> Option<Letter>
-    requires { floor.old ≡ opened courier_first tt 2 1 }
+    requires { floor.old ≡ new_floor courier_first tt 2 1 }
     ensures letter { result ≡ Some letter }
     ensures collected { slice_index (place_of courier_first floor.new).own.collects 0 ≡ 1 }
     ensures got { (place_of courier_first floor.new).client.got ≡ map (λ got. record { from = 0; letter = got }) (option_to_list result) }

@@ -3,7 +3,7 @@ ghost use Rattle.std.specs.Prelude.{◌≡◌, ℕ, ◌<◌, ◌≤◌, [], leng
 ghost use mathlib.Core.Option.{some};
 ghost use lib.ListN.{get_elem?};
 ghost use Rattle.kit_ground.specs.Layout.{size_of};
-ghost use Rattle.kit_ground.specs.Rules.{blank, places_at_first};
+ghost use Rattle.kit_ground.specs.Rules.{zero_memory, places_at_first};
 ghost use Rattle.kit_ground.specs.Words.{RuledWords};
 ghost use Rattle.kit_pool.specs.Seating.{place_in};
 ghost use Rattle.kit_pool.specs.Seats.{IsNewSeat, IsSized};
@@ -62,7 +62,7 @@ impl<P: Protocol> TableFloor<P> {
     ) -> Result<(TableFloor<P>, Vec<TableSeat<P>>), AllocError>
         requires federates { (1 ≤ federates) × (federates ≤ 16) }
         requires buffers { buffers ≤ 1024 }
-        requires rule { P.rule.holds blank (places_at_first (P.first opening.now) federates buffers) }
+        requires rule { P.rule.holds zero_memory (places_at_first (P.first opening.now) federates buffers) }
         ensures floor { IfOk result (λ r. (r.0.table.shared.key.federates ≡ federates) × (r.0.table.shared.key.buffers ≡ buffers) × (r.0.table.shared.key.opening.value ≡ opening.now)) }
         ensures many { IfOk result (λ r. length r.1.items ≡ federates) }
         ensures seats { IfOk result (λ r. (k : ℕ) (s : _) → get_elem? r.1.items k ≡ some s → IsNewSeat (P.first opening.now) federates buffers k r.0.table.shared.table_id s.number s.federates s.buffers s.seat.table_id s.seat.me.0) }

@@ -8,10 +8,10 @@ use mathlib.Core.Logic.{dite}
 use native.Mathlib.Decide.{ℕ_discrete}
 use Rattle.kit_ground.specs.declared.address.Address.TheVariants.{Mail, Count, Part}
 use Rattle.kit_ground.specs.declared.place.Buffer.{Buffer}
-use Rattle.kit_ground.specs.declared.place.Stock.{Stock}
-use Rattle.kit_ground.specs.Memory.{Memory, stored}
+use Rattle.kit_ground.specs.declared.place.SeatBuffers.{SeatBuffers}
+use Rattle.kit_ground.specs.Memory.{Memory, with_word}
 use Rattle.kit_ground.specs.Sets.{Pool, buffer_at, due, stock_at, to_be_posted, posted, holding}
-use Rattle.kit_ground.specs.Steps.{buffer_of, with_buffer, part_of, seen, written, charged, posted_to}
+use Rattle.kit_ground.specs.Steps.{buffer_of, with_buffer, part_of, buffer_after_look, buffer_after_write, buffer_after_charge, buffer_after_post}
 use Rattle.kit_ground.proofs.Bits.{flipped_else, flipped_here, joined_else, joined_here}
 use Rattle.kit_ground.proofs.Fits.{Fits, Narrow, at_buffer, due_is, due_same, fits, fits_as_before, fits_aside, pool_from_fits, seat_inside, buffers_long, holds_long}
 use Rattle.kit_ground.proofs.Memories.{stored_here, count_else, mail_else, part_else}
@@ -26,26 +26,26 @@ same_parts zero c d head body = head
 same_parts (suc p) c d head body = body
 
 -- a write of the content word p
-written_here : (p word : ℕ) (c : Buffer) → part_of p (written p word c) ≡ word
+written_here : (p word : ℕ) (c : Buffer) → part_of p (buffer_after_write p word c) ≡ word
 written_here zero word c = refl
 written_here (suc p) word c = refl
 
-written_else : (p q word : ℕ) (c : Buffer) → p < 2 → q < 2 → q ≢ p → part_of q (written p word c) ≡ part_of q c
+written_else : (p q word : ℕ) (c : Buffer) → p < 2 → q < 2 → q ≢ p → part_of q (buffer_after_write p word c) ≡ part_of q c
 written_else zero zero word c lp lq apart = absurd (apart refl)
 written_else zero (suc q) word c lp lq apart = refl
 written_else (suc p) zero word c lp lq apart = refl
 written_else (suc p) (suc q) word c lp lq apart = absurd (apart (omega arith))
 
-written_free : (p word : ℕ) (c : Buffer) → (written p word c).free ≡ c.free
+written_free : (p word : ℕ) (c : Buffer) → (buffer_after_write p word c).free ≡ c.free
 written_free zero word c = refl
 written_free (suc p) word c = refl
 
-written_to_post : (p word : ℕ) (c : Buffer) → (written p word c).to_post ≡ c.to_post
+written_to_post : (p word : ℕ) (c : Buffer) → (buffer_after_write p word c).to_post ≡ c.to_post
 written_to_post zero word c = refl
 written_to_post (suc p) word c = refl
 
 -- the seat `me` has the stock s
-module _ (m : Memory) (stocks : List Stock) (n b me : ℕ) (s : Stock) (h : Pool m stocks n b) (is : stock_at stocks me ≡ s) (lme : me < n) where
+module _ (m : Memory) (stocks : List SeatBuffers) (n b me : ℕ) (s : SeatBuffers) (h : Pool m stocks n b) (is : stock_at stocks me ≡ s) (lme : me < n) where
   inside : me < length stocks
   inside = seat_inside m stocks n b h me lme
 
@@ -56,14 +56,14 @@ module _ (m : Memory) (stocks : List Stock) (n b me : ℕ) (s : Stock) (h : Pool
   long_holds = holds_long m stocks n b h me s is lme
 
   module _ (k : ℕ) (lk : k < b) where
-    abbrev after : Buffer → List Stock
+    abbrev after : Buffer → List SeatBuffers
     after c = rebuffered stocks me s k c
 
     abbrev old : Buffer
     old = buffer_of s k
 
     was : buffer_at m stocks me k ≡ old
-    was = ap (λ (q : Stock). buffer_of q k) is
+    was = ap (λ (q : SeatBuffers). buffer_of q k) is
 
     now_is : (now : Memory) (c : Buffer) → buffer_at now (after c) me k ≡ c
     now_is now c = buffer_here stocks me s is inside k c (let l = long_buffers in omega arith)
@@ -99,19 +99,19 @@ module _ (m : Memory) (stocks : List Stock) (n b me : ℕ) (s : Stock) (h : Pool
         parts p ∙ (fits_here.content p lp ∙ (ap (part_of p) was ∙ (sym (same_parts p c old head body) ∙ ap (part_of p) (sym (now_is now c)))))
 
     -- ---- a look at the count
-    pub sees : (free : Bool) → (free ≡ true → m (Count me k) ≡ 0) → Pool m (after (seen free old)) n b
+    pub sees : (free : Bool) → (free ≡ true → m (Count me k) ≡ 0) → Pool m (after (buffer_after_look free old)) n b
     sees free none =
-        let c : Buffer = seen free old in
+        let c : Buffer = buffer_after_look free old in
         from_here m c (fits_as_before m m stocks (after c) n me k lme fits_here refl (due_kept m c refl (λ j. refl))
         (λ e. none (sym (ap (λ (d : Buffer). d.free) (now_is m c)) ∙ e))
         (content_kept m c refl refl (λ p. refl)))
         (λ i x apart. refl) (λ i x p apart. refl) (λ i x j apart. refl) h.narrow
 
     -- ---- a write of a content word
-    pub writes : (p word : ℕ) → p < 2 → Pool (stored m (Part me k p) word) (after (written p word old)) n b
+    pub writes : (p word : ℕ) → p < 2 → Pool (with_word m (Part me k p) word) (after (buffer_after_write p word old)) n b
     writes p word lp =
-        let c : Buffer = written p word old in
-        let now : Memory = stored m (Part me k p) word in
+        let c : Buffer = buffer_after_write p word old in
+        let now : Memory = with_word m (Part me k p) word in
         let content : (q : ℕ) → q < 2 → now (Part me k q) ≡ part_of q (buffer_at now (after c) me k) =
         λ q lq. dite (ℕ_discrete q p)
         (λ same. subst (λ (x : ℕ). now (Part me k x) ≡ part_of x (buffer_at now (after c) me k)) (sym same)
@@ -123,10 +123,10 @@ module _ (m : Memory) (stocks : List Stock) (n b me : ℕ) (s : Stock) (h : Pool
         (λ i x apart. refl) (λ i x q apart. part_else m me k p i x q word (λ a e. absurd (apart a e))) (λ i x j apart. refl) h.narrow
 
     -- ---- a charge
-    pub charges : (mask : ℕ) → old.free ≡ true → mask < 2 ^ n → bit_at mask me ≡ 0 → Pool (stored m (Count me k) (ones mask)) (after (charged mask old)) n b
+    pub charges : (mask : ℕ) → old.free ≡ true → mask < 2 ^ n → bit_at mask me ≡ 0 → Pool (with_word m (Count me k) (ones mask)) (after (buffer_after_charge mask old)) n b
     charges mask free narrow without =
-        let c : Buffer = charged mask old in
-        let now : Memory = stored m (Count me k) (ones mask) in
+        let c : Buffer = buffer_after_charge mask old in
+        let now : Memory = with_word m (Count me k) (ones mask) in
         let due_here : (j : ℕ) → j < n → due now (after c) me k j ≡ bit_at mask j =
         λ j lj.
         let none = free_in_none m stocks n b h me k lme lk j lj (ap (λ (d : Buffer). d.free) was ∙ free) in
@@ -141,14 +141,14 @@ module _ (m : Memory) (stocks : List Stock) (n b me : ℕ) (s : Stock) (h : Pool
         (λ i x apart. count_else m me k i x (ones mask) apart) (λ i x p apart. refl) (λ i x j apart. refl) h.narrow
 
     -- ---- a post
-    pub posts : (j : ℕ) → j < n → bit_at old.to_post j ≡ 1 → Pool (stored m (Mail j me (k / 64)) (bit_or (m (Mail j me (k / 64))) (2 ^ (k % 64)))) (after (posted_to j old)) n b
+    pub posts : (j : ℕ) → j < n → bit_at old.to_post j ≡ 1 → Pool (with_word m (Mail j me (k / 64)) (bit_or (m (Mail j me (k / 64))) (2 ^ (k % 64)))) (after (buffer_after_post j old)) n b
     posts j lj on =
-        let c : Buffer = posted_to j old in
+        let c : Buffer = buffer_after_post j old in
         let w : ℕ = k / 64 in
         let bit : ℕ = k % 64 in
         let mail : ℕ = m (Mail j me w) in
         let more : ℕ = bit_or mail (2 ^ bit) in
-        let now : Memory = stored m (Mail j me w) more in
+        let now : Memory = with_word m (Mail j me w) more in
         let mail_here : now (Mail j me w) ≡ more = stored_here m (Mail j me w) more in
         let posted_else : (i x y : ℕ) → (i ≡ me → x ≡ k → y ≢ j) → posted now (after c) i x y ≡ posted m stocks i x y =
         λ i x y apart. dite (ℕ_discrete i me)

@@ -6,14 +6,14 @@ use mathlib.Core.Logic.{dite}
 use native.Mathlib.Decide.{ℕ_discrete}
 use Rattle.kit_ground.specs.declared.address.Address.TheVariants.{Mail, Count, Part}
 use Rattle.kit_ground.specs.declared.place.Buffer.{Buffer}
-use Rattle.kit_ground.specs.declared.place.Stock.{Stock}
+use Rattle.kit_ground.specs.declared.place.SeatBuffers.{SeatBuffers}
 use Rattle.kit_ground.specs.Memory.{Memory}
 use Rattle.kit_ground.specs.Sets.{Pool, buffer_at, due, stock_at, sum_to, to_be_posted, posted, holding}
 use Rattle.kit_ground.specs.Steps.{part_of}
 use Rattle.kit_ground.proofs.Stocks.{of_each}
 use Rattle.kit_ground.proofs.Sums.{sum_same}
 
-pub due_is : (m : Memory) (stocks : List Stock) (i k j : ℕ) → due m stocks i k j ≡ to_be_posted m stocks i k j + posted m stocks i k j + holding m stocks i k j
+pub due_is : (m : Memory) (stocks : List SeatBuffers) (i k j : ℕ) → due m stocks i k j ≡ to_be_posted m stocks i k j + posted m stocks i k j + holding m stocks i k j
 unfolding due
 due_is m stocks i k j = refl
 
@@ -22,14 +22,14 @@ abbrev pub Narrow : Memory → ℕ → ℕ → Type 0
 Narrow m n b = (j i w k : ℕ) → j < n → i < n → bit_at (m (Mail j i w)) k ≡ 1 → (k < 64) × (64 * w + k < b)
 
 -- what the rule says of the buffer k of i
-pub record Fits (m : Memory) (stocks : List Stock) (n i k : ℕ) : Type 0 where
+pub record Fits (m : Memory) (stocks : List SeatBuffers) (n i k : ℕ) : Type 0 where
   pub counted : m (Count i k) ≡ sum_to (due m stocks i k) n
   pub once : (j : ℕ) → j < n → due m stocks i k j ≤ 1
   pub others : due m stocks i k i ≡ 0
   pub free : (buffer_at m stocks i k).free ≡ true → m (Count i k) ≡ 0
   pub content : (p : ℕ) → p < 2 → m (Part i k p) ≡ part_of p (buffer_at m stocks i k)
 
-module _ (m : Memory) (stocks : List Stock) (n b : ℕ) (h : Pool m stocks n b) where
+module _ (m : Memory) (stocks : List SeatBuffers) (n b : ℕ) (h : Pool m stocks n b) where
   pub fits : (i k : ℕ) → i < n → k < b → Fits m stocks n i k
   fits i k li lk = record {
     counted = h.counted i k li lk;
@@ -42,15 +42,15 @@ module _ (m : Memory) (stocks : List Stock) (n b : ℕ) (h : Pool m stocks n b) 
   pub seat_inside : (me : ℕ) → me < n → me < length stocks
   seat_inside me lme = let e = h.seats in omega arith
 
-  module _ (me : ℕ) (s : Stock) (is : stock_at stocks me ≡ s) (lme : me < n) where
+  module _ (me : ℕ) (s : SeatBuffers) (is : stock_at stocks me ≡ s) (lme : me < n) where
     pub buffers_long : length s.buffers ≡ b
-    buffers_long = ap (λ (q : Stock). length q.buffers) (sym is) ∙ (h.sized me lme).0
+    buffers_long = ap (λ (q : SeatBuffers). length q.buffers) (sym is) ∙ (h.sized me lme).0
 
     pub holds_long : length s.holds ≡ n
-    holds_long = ap (λ (q : Stock). length q.holds) (sym is) ∙ (h.sized me lme).1
+    holds_long = ap (λ (q : SeatBuffers). length q.holds) (sym is) ∙ (h.sized me lme).1
 
   -- the rule after a step of the seat `me`
-  pub pool_from_fits : (now : Memory) (me : ℕ) (q : Stock) → me < length stocks → length q.buffers ≡ b → length q.holds ≡ n
+  pub pool_from_fits : (now : Memory) (me : ℕ) (q : SeatBuffers) → me < length stocks → length q.buffers ≡ b → length q.holds ≡ n
       → ((i k : ℕ) → i < n → k < b → Fits now (slice_set stocks me q) n i k)
       → Narrow now n b
       → Pool now (slice_set stocks me q) n b
@@ -66,7 +66,7 @@ module _ (m : Memory) (stocks : List Stock) (n b : ℕ) (h : Pool m stocks n b) 
   }
 
 -- a buffer for which each federate counts as before
-module _ (m now : Memory) (stocks new : List Stock) (n i k : ℕ) where
+module _ (m now : Memory) (stocks new : List SeatBuffers) (n i k : ℕ) where
   pub fits_as_before : i < n → Fits m stocks n i k → now (Count i k) ≡ m (Count i k) → ((j : ℕ) → j < n → due now new i k j ≡ due m stocks i k j)
       → ((buffer_at now new i k).free ≡ true → m (Count i k) ≡ 0) → ((p : ℕ) → p < 2 → now (Part i k p) ≡ part_of p (buffer_at now new i k)) → Fits now new n i k
   fits_as_before li h count same free content = record {

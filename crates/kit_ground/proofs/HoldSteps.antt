@@ -7,10 +7,10 @@ use mathlib.Core.Logic.{dite}
 use native.Mathlib.Decide.{ℕ_discrete}
 use Rattle.kit_ground.specs.declared.address.Address.TheVariants.{Mail, Count}
 use Rattle.kit_ground.specs.declared.place.Buffer.{Buffer}
-use Rattle.kit_ground.specs.declared.place.Stock.{Stock}
-use Rattle.kit_ground.specs.Memory.{Memory, stored}
+use Rattle.kit_ground.specs.declared.place.SeatBuffers.{SeatBuffers}
+use Rattle.kit_ground.specs.Memory.{Memory, with_word}
 use Rattle.kit_ground.specs.Sets.{Pool, buffer_at, due, stock_at, to_be_posted, posted, holding}
-use Rattle.kit_ground.specs.Steps.{part_of, collected, mail_mask, released}
+use Rattle.kit_ground.specs.Steps.{part_of, stock_after_collect, mail_mask, stock_after_release}
 use Rattle.kit_ground.proofs.Bits.{flipped_else, flipped_here}
 use Rattle.kit_ground.proofs.Fits.{Fits, Narrow, at_buffer, due_is, due_same, fits, fits_aside, pool_from_fits, seat_inside, buffers_long, holds_long}
 use Rattle.kit_ground.proofs.Memories.{stored_here, count_else, mail_else}
@@ -27,8 +27,8 @@ no_more : (x : ℕ) → max x 0 ≡ x
 no_more x = omega arith
 
 -- the seat `me` has the stock s, and changes its mask of the buffers of `from`
-module _ (m : Memory) (stocks : List Stock) (n b me : ℕ) (s : Stock) (h : Pool m stocks n b) (is : stock_at stocks me ≡ s) (lme : me < n) (from : ℕ) (lfrom : from < n) where
-  abbrev after : ℕ → List Stock
+module _ (m : Memory) (stocks : List SeatBuffers) (n b me : ℕ) (s : SeatBuffers) (h : Pool m stocks n b) (is : stock_at stocks me ≡ s) (lme : me < n) (from : ℕ) (lfrom : from < n) where
+  abbrev after : ℕ → List SeatBuffers
   after v = reheld stocks me s from v
 
   inside : me < length stocks
@@ -47,7 +47,7 @@ module _ (m : Memory) (stocks : List Stock) (n b me : ℕ) (s : Stock) (h : Pool
   to_be_posted_same now v i x j = ap (λ (c : Buffer). bit_at c.to_post j) (buffer_same now v i x)
 
   held_before : (x : ℕ) → holding m stocks from x me ≡ bit_at (slice_index s.holds from) x
-  held_before x = ap (λ (q : Stock). bit_at (slice_index q.holds from) x) is
+  held_before x = ap (λ (q : SeatBuffers). bit_at (slice_index q.holds from) x) is
 
   held_here : (now : Memory) (v x : ℕ) → holding now (after v) from x me ≡ bit_at v x
   held_here now v x = ap (λ (w : ℕ). bit_at w x) (holds_here stocks me s is inside from v (let l = long_holds in omega arith))
@@ -59,12 +59,12 @@ module _ (m : Memory) (stocks : List Stock) (n b me : ℕ) (s : Stock) (h : Pool
   from_each now v each narrow = pool_from_fits m stocks n b h now me (with_held from v s) inside long_buffers (length-set s.holds from v ∙ long_holds) each narrow
 
   -- ---- a collect
-  pub collects : (w : ℕ) → Pool (stored m (Mail me from w) 0) (slice_set stocks me (collected from w (m (Mail me from w)) s)) n b
+  pub collects : (w : ℕ) → Pool (with_word m (Mail me from w) 0) (slice_set stocks me (stock_after_collect from w (m (Mail me from w)) s)) n b
   collects w =
       let mail : ℕ = m (Mail me from w) in
       let mask : ℕ = mail_mask w mail in
       let v : ℕ = bit_or (slice_index s.holds from) mask in
-      let now : Memory = stored m (Mail me from w) 0 in
+      let now : Memory = with_word m (Mail me from w) 0 in
       let mail_here : now (Mail me from w) ≡ 0 = stored_here m (Mail me from w) 0 in
       let narrow_mail : (c : ℕ) → bit_at mail c ≡ 1 → c < 64 = λ c on. (h.narrow me from w c lme lfrom on).0 in
       let held_now : (x : ℕ) → holding now (after v) from x me ≡ max (holding m stocks from x me) (bit_at mask x) =
@@ -104,11 +104,11 @@ module _ (m : Memory) (stocks : List Stock) (n b me : ℕ) (s : Stock) (h : Pool
       (λ other. narrow_else j i u x lj li (λ a. absurd (other a))))
 
   -- ---- a release
-  pub releases : (k : ℕ) → k < b → bit_at (slice_index s.holds from) k ≡ 1 → Pool (stored m (Count from k) (m (Count from k) - 1)) (slice_set stocks me (released from k s)) n b
+  pub releases : (k : ℕ) → k < b → bit_at (slice_index s.holds from) k ≡ 1 → Pool (with_word m (Count from k) (m (Count from k) - 1)) (slice_set stocks me (stock_after_release from k s)) n b
   releases k lk on =
       let v : ℕ = bit_xor (slice_index s.holds from) (2 ^ k) in
       let count : ℕ = m (Count from k) - 1 in
-      let now : Memory = stored m (Count from k) count in
+      let now : Memory = with_word m (Count from k) count in
       let before = held_before k ∙ on in
       let one = holding_due m stocks n b h from k lfrom lk me lme before in
       let due_here : due now (after v) from k me ≡ 0 =

@@ -7,7 +7,7 @@ use Rattle.kit_ground.specs.declared.place.Place.{Place}
 use Rattle.kit_ground.specs.Laws.{IsStepOn, StepsKeepBothRules, StepsKeepGuests, words_after_step}
 use Rattle.kit_ground.specs.Layout.{memory_of}
 use Rattle.kit_ground.specs.Rules.{Rule}
-use Rattle.kit_ground.specs.Steps.{Allowed, acted, address_of}
+use Rattle.kit_ground.specs.Steps.{Allowed, place_after, address_of}
 use Rattle.kit_ground.specs.Words.{RuledWords}
 use Rattle.kit_ground.proofs.WordSteps.{words_step, guests_step}
 
@@ -21,10 +21,10 @@ module _ {V : Type 0} (rule : Rule V) where
 
   pub keeps_both : StepsKeepBothRules rule
   keeps_both b words places me p next a deed found s keeps =
-      subst (λ (x : ℕ). RuledWords rule b (words_after_step b words places a (deed x) x) (slice_set places me (acted next (deed x) p))) (sym s.found_is)
+      subst (λ (x : ℕ). RuledWords rule b (words_after_step b words places a (deed x) x) (slice_set places me (place_after next (deed x) p))) (sym s.found_is)
       (words_step rule b words places s.rules me p s.here next a deed (address b words places me p next a deed found s) (allowed b words places me p next a deed found s) keeps)
 
   pub keeps_guests : StepsKeepGuests rule
   keeps_guests b words places me p next a deed found s keeps guest h =
-      subst (λ (x : ℕ). rule.sees (memory_of (length places) b (words_after_step b words places a (deed x) x)) (slice_set places me (acted next (deed x) p)) guest) (sym s.found_is)
+      subst (λ (x : ℕ). rule.sees (memory_of (length places) b (words_after_step b words places a (deed x) x)) (slice_set places me (place_after next (deed x) p)) guest) (sym s.found_is)
       (guests_step rule b words places s.rules me p s.here next a deed (address b words places me p next a deed found s) (allowed b words places me p next a deed found s) keeps guest h)

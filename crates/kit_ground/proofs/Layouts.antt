@@ -6,9 +6,9 @@ use Rattle.std.proofs.lemmas.List.{get_or-set_other, get_or-set_same}
 use Rattle.std.specs.Prelude.{slice_index}
 use Rattle.kit_ground.specs.declared.address.Address.{Address}
 use Rattle.kit_ground.specs.declared.address.Address.TheVariants.{Register, Stop, Mail, Count, Part}
-use Rattle.kit_ground.specs.Memory.{stored, same_address}
+use Rattle.kit_ground.specs.Memory.{with_word, same_address}
 use Rattle.kit_ground.specs.Layout.{size_of, is_there, index_of, mail_words, memory_of}
-use Rattle.kit_ground.specs.Rules.{blank}
+use Rattle.kit_ground.specs.Rules.{zero_memory}
 use Rattle.kit_ground.proofs.Memories.{same_tells, same_here}
 
 and_both : (x y : Bool) → (x && y) ≡ true → (x ≡ true) × (y ≡ true)
@@ -119,13 +119,13 @@ module _ (n b : ℕ) (words : List ℕ) (a : Address) (v : ℕ) (there : is_ther
     | inr e ↦ ap (λ (t : Bool). cond t (slice_index now (index_of n b x)) 0) e ∙ sym (ap (λ (t : Bool). cond t (slice_index words (index_of n b x)) 0) e)
   ]
 
-  each : (x : Address) → memory_of n b now x ≡ stored (memory_of n b words) a v x
+  each : (x : Address) → memory_of n b now x ≡ with_word (memory_of n b words) a v x
   each x = elim (either_way (same_address x a)) [
     | inl e ↦ ap (memory_of n b now) (same_tells x a e) ∙ (here ∙ sym (ap (λ (t : Bool). cond t v (memory_of n b words x)) e))
     | inr e ↦ elsewhere x (λ same. true≢false (sym (same_here a) ∙ (ap (λ (y : Address). same_address y a) (sym same) ∙ e))) ∙ sym (ap (λ (t : Bool). cond t v (memory_of n b words x)) e)
   ]
 
-  pub memory_set : memory_of n b now ≡ stored (memory_of n b words) a v
+  pub memory_set : memory_of n b now ≡ with_word (memory_of n b words) a v
   memory_set i x = each x i
 
 zeros : (n k : ℕ) → slice_index (replicate n 0) k ≡ 0
@@ -138,5 +138,5 @@ no_word true n k = zeros n k
 no_word false n k = refl
 
 -- words of 0 are the memory at first
-pub memory_blank : (n b : ℕ) → memory_of n b (replicate (size_of n b) 0) ≡ blank
+pub memory_blank : (n b : ℕ) → memory_of n b (replicate (size_of n b) 0) ≡ zero_memory
 memory_blank n b i x = no_word (is_there n b x) (size_of n b) (index_of n b x) i

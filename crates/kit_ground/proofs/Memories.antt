@@ -3,7 +3,7 @@ use Rattle.std.proofs.Common.{Bool, true, false, ◌≡◌, ◌≢◌, ℕ, ◌&
 use Rattle.kit_ground.specs.declared.address.Reg.{Reg}
 use Rattle.kit_ground.specs.declared.address.Address.{Address}
 use Rattle.kit_ground.specs.declared.address.Address.TheVariants.{Register, Stop, Mail, Count, Part}
-use Rattle.kit_ground.specs.Memory.{Memory, same_address, stored}
+use Rattle.kit_ground.specs.Memory.{Memory, same_address, with_word}
 
 both : (c d : Bool) → (c && d) ≡ true → (c ≡ true) × (d ≡ true)
 both true d e = (refl, e)
@@ -37,7 +37,7 @@ same_here (Count i k) = λ z. equal i z && equal k z
 same_here (Part i k p) = λ z. equal i z && equal k z && equal p z
 
 -- the word that was stored
-pub stored_here : (m : Memory) (a : Address) (v : ℕ) → stored m a v a ≡ v
+pub stored_here : (m : Memory) (a : Address) (v : ℕ) → with_word m a v a ≡ v
 stored_here m a v = ap (λ (t : Bool). if t then v else m a) (same_here a)
 
 else_by : (t : Bool) (v w : ℕ) → (t ≡ true → ⊥) → (if t then v else w) ≡ w
@@ -45,7 +45,7 @@ else_by true v w h = absurd (h refl)
 else_by false v w h = refl
 
 -- any other word is as before
-pub stored_else : (m : Memory) (a x : Address) (v : ℕ) → x ≢ a → stored m a v x ≡ m x
+pub stored_else : (m : Memory) (a x : Address) (v : ℕ) → x ≢ a → with_word m a v x ≡ m x
 stored_else m a x v apart = else_by (same_address x a) v (m x) (λ e. apart (same_tells x a e))
 
 same_by : (m : Memory) (a x : Address) (t : Bool) → (t ≡ true → x ≡ a) → (if t then m a else m x) ≡ m x
@@ -53,7 +53,7 @@ same_by m a x true h = ap m (sym (h refl))
 same_by m a x false h = refl
 
 -- storing what is there changes nothing
-pub stored_same : (m : Memory) (a : Address) → stored m a (m a) ≡ m
+pub stored_same : (m : Memory) (a : Address) → with_word m a (m a) ≡ m
 stored_same m a = λ k x. same_by m a x (same_address x a) (same_tells x a) k
 
 -- what parts addresses of one kind
@@ -77,18 +77,18 @@ third_of (Part i k p) = p
 third_of _ = 0
 
 module _ (m : Memory) where
-  pub register_else : (r c : Reg) (v : ℕ) → (c.owner ≡ r.owner → c.slot ≢ r.slot) → stored m (Register r) v (Register c) ≡ m (Register c)
+  pub register_else : (r c : Reg) (v : ℕ) → (c.owner ≡ r.owner → c.slot ≢ r.slot) → with_word m (Register r) v (Register c) ≡ m (Register c)
   unfolding owner_of second_of
   register_else r c v apart = stored_else m (Register r) (Register c) v (λ e. apart (ap owner_of e) (ap second_of e))
 
-  pub mail_else : (j i w y x z v : ℕ) → (x ≡ i → y ≡ j → z ≢ w) → stored m (Mail j i w) v (Mail y x z) ≡ m (Mail y x z)
+  pub mail_else : (j i w y x z v : ℕ) → (x ≡ i → y ≡ j → z ≢ w) → with_word m (Mail j i w) v (Mail y x z) ≡ m (Mail y x z)
   unfolding owner_of second_of third_of
   mail_else j i w y x z v apart = stored_else m (Mail j i w) (Mail y x z) v (λ e. apart (ap owner_of e) (ap second_of e) (ap third_of e))
 
-  pub count_else : (i k x y v : ℕ) → (x ≡ i → y ≢ k) → stored m (Count i k) v (Count x y) ≡ m (Count x y)
+  pub count_else : (i k x y v : ℕ) → (x ≡ i → y ≢ k) → with_word m (Count i k) v (Count x y) ≡ m (Count x y)
   unfolding owner_of second_of
   count_else i k x y v apart = stored_else m (Count i k) (Count x y) v (λ e. apart (ap owner_of e) (ap second_of e))
 
-  pub part_else : (i k p x y q v : ℕ) → (x ≡ i → y ≡ k → q ≢ p) → stored m (Part i k p) v (Part x y q) ≡ m (Part x y q)
+  pub part_else : (i k p x y q v : ℕ) → (x ≡ i → y ≡ k → q ≢ p) → with_word m (Part i k p) v (Part x y q) ≡ m (Part x y q)
   unfolding owner_of second_of third_of
   part_else i k p x y q v apart = stored_else m (Part i k p) (Part x y q) v (λ e. apart (ap owner_of e) (ap second_of e) (ap third_of e))

@@ -6,7 +6,7 @@ use lib.ListN.{get_elem?}
 use Rattle.atomic_table.proofs.Lists.{at_set}
 use Rattle.kit_ground.specs.declared.place.Deed.{Deed}
 use Rattle.kit_ground.specs.declared.place.Place.{Place}
-use Rattle.kit_ground.specs.Steps.{acted}
+use Rattle.kit_ground.specs.Steps.{place_after}
 
 -- a fact of each place: of the one that changed, and of the others
 pub each_after : {V : Type 0} (F : ℕ → Place V → Type 0) (places : List (Place V)) (me : ℕ) (q : Place V) → F me q
@@ -18,5 +18,5 @@ each_after {V} F places me q mine others j r at = ⊎_elim
     (at_set places me j q r at)
 
 -- a place that is known by the steps that led to it, one step further
-pub stage : {V : Type 0} (next : Deed → Place V → V) (deed : Deed) (p q r : Place V) → r ≡ acted next deed q → q ≡ p → r ≡ acted next deed p
-stage next deed p q r step at = step ∙ ap (acted next deed) at
+pub stage : {V : Type 0} (next : Deed → Place V → V) (deed : Deed) (p q r : Place V) → r ≡ place_after next deed q → q ≡ p → r ≡ place_after next deed p
+stage next deed p q r step at = step ∙ ap (place_after next deed) at

@@ -3,7 +3,7 @@ use Rattle.std.proofs.Common.{◌≡◌, ℕ, zero, suc, ◌<◌, List, [], ◌�
 use mathlib.Core.Option.{some, some-injective, some-ne-none}
 use lib.ListN.{get_elem?}
 use Rattle.kit_ground.specs.declared.place.Place.{Place}
-use Rattle.kit_ground.specs.Coming.{Came}
+use Rattle.kit_ground.specs.Coming.{AreSteps}
 use Rattle.kit_ground.specs.Floors.{Floor, place_of}
 use Rattle.kit_ground.specs.Rules.{own_at_first}
 use Rattle.kit_ground.proofs.Lists.{at_or}
@@ -35,6 +35,6 @@ same_at (x ∷ xs) (y ∷ ys) (suc i) zero d e = same_at xs (y ∷ ys) i zero d 
 same_at (x ∷ xs) (y ∷ ys) (suc i) (suc j) d e = same_at xs ys i j d e
 
 -- it stays as it is when another makes steps
-pub place_else : {O V : Type 0} (first : O → ℕ → V) (f h : Floor O V) → Came first f h → (k : ℕ) → k ≢ f.seated → place_of first (record h { seated = k }) ≡ place_of first (record f { seated = k })
+pub place_else : {O V : Type 0} (first : O → ℕ → V) (f h : Floor O V) → AreSteps first f h → (k : ℕ) → k ≢ f.seated → place_of first (record h { seated = k }) ≡ place_of first (record f { seated = k })
 place_else first f h came k other =
     same_at h.places f.places k k _ (came.others k other) ∙ ap (λ o. get_or f.places k (record { own = own_at_first 0 0 0; client = first o 0 })) came.opening

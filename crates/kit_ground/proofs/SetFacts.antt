@@ -4,7 +4,7 @@ use Rattle.std.proofs.lemmas.Nat.{ones-le}
 use Rattle.std.specs.Int.{bit_at}
 use Rattle.std.specs.Int.Count.{ones}
 use Rattle.kit_ground.specs.declared.address.Address.TheVariants.{Mail, Count}
-use Rattle.kit_ground.specs.declared.place.Stock.{Stock}
+use Rattle.kit_ground.specs.declared.place.SeatBuffers.{SeatBuffers}
 use Rattle.kit_ground.specs.Memory.{Memory}
 use Rattle.kit_ground.specs.Sets.{Pool, buffer_at, due, to_be_posted, posted, holding, sum_to}
 use Rattle.kit_ground.proofs.Fits.{due_is}
@@ -19,12 +19,12 @@ none_left : (d x y z : ℕ) → d ≡ x + y + z → d ≡ 0 → (x ≡ 0) × (y 
 none_left d x y z e h = (omega arith, omega arith, omega arith)
 
 -- the federate j is in none of the three sets of the buffer k of i
-pub record InNone (m : Memory) (stocks : List Stock) (i k j : ℕ) : Type 0 where
+pub record InNone (m : Memory) (stocks : List SeatBuffers) (i k j : ℕ) : Type 0 where
   pub to_be_posted : to_be_posted m stocks i k j ≡ 0
   pub posted : posted m stocks i k j ≡ 0
   pub holding : holding m stocks i k j ≡ 0
 
-module _ (m : Memory) (stocks : List Stock) (n b : ℕ) (h : Pool m stocks n b) where
+module _ (m : Memory) (stocks : List SeatBuffers) (n b : ℕ) (h : Pool m stocks n b) where
   module _ (i k : ℕ) (li : i < n) (lk : k < b) where
     -- a count is no more than the number of federates
     pub count_small : m (Count i k) ≤ n

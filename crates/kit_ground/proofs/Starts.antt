@@ -8,16 +8,16 @@ use mathlib.Core.Option.{some, some-injective, some-ne-none}
 use lib.ListN.{get_elem?}
 use Rattle.kit_ground.specs.declared.place.Buffer.{Buffer}
 use Rattle.kit_ground.specs.declared.place.Place.{Place}
-use Rattle.kit_ground.specs.declared.place.Stock.{Stock}
+use Rattle.kit_ground.specs.declared.place.SeatBuffers.{SeatBuffers}
 use Rattle.kit_ground.specs.Layout.{mail_words}
-use Rattle.kit_ground.specs.Rules.{Floored, OwnFits, blank, own_at_first, places_at_first, places_from, stock_of}
+use Rattle.kit_ground.specs.Rules.{FloorHolds, OwnFits, zero_memory, own_at_first, places_at_first, places_from, stock_of}
 use Rattle.kit_ground.specs.Sets.{Pool, buffer_at, due, stock_at}
-use Rattle.kit_ground.specs.Steps.{buffer_of, part_of, untouched}
+use Rattle.kit_ground.specs.Steps.{buffer_of, part_of, fresh_buffer}
 use Rattle.kit_ground.proofs.Fits.{due_is}
 use Rattle.kit_ground.proofs.Lists.{same_everywhere}
 use Rattle.kit_ground.proofs.Sums.{sum_zero}
 
-untouched_part : (p : ℕ) → part_of p untouched ≡ 0
+untouched_part : (p : ℕ) → part_of p fresh_buffer ≡ 0
 untouched_part zero = refl
 untouched_part (suc p) = refl
 
@@ -40,7 +40,7 @@ module _ {V : Type 0} (first : ℕ → V) (n b : ℕ) where
   pub client_at_first : (j : ℕ) (p : Place V) → get_elem? (places_at_first first n b) j ≡ some p → (p.client ≡ first j) × (p.own ≡ own_at_first n b j)
   client_at_first j p e = let same : 0 + j ≡ j = omega arith in subst (λ (x : ℕ). (p.client ≡ first x) × (p.own ≡ own_at_first n b x)) same (place_from 0 n j p e)
 
-  pub own_fits_at_first : (j : ℕ) → OwnFits blank n b j (own_at_first n b j)
+  pub own_fits_at_first : (j : ℕ) → OwnFits zero_memory n b j (own_at_first n b j)
   own_fits_at_first j = record {
     number = refl;
     federates = refl;
@@ -53,32 +53,32 @@ module _ {V : Type 0} (first : ℕ → V) (n b : ℕ) where
     shows = λ s ls. sym (same_everywhere 13 s 0);
   }
 
-  abbrev stock : Stock
-  stock = record { buffers = replicate b untouched; holds = replicate n 0 }
+  abbrev stock : SeatBuffers
+  stock = record { buffers = replicate b fresh_buffer; holds = replicate n 0 }
 
   stock_from : (k m j : ℕ) → j < m → stock_at (map stock_of (places_from first n b k m)) j ≡ stock
   stock_from k zero j lt = absurd (omega arith)
   stock_from k (suc m) zero lt = refl
   stock_from k (suc m) (suc j) lt = stock_from (k + 1) m j (omega arith)
 
-  abbrev stocks : List Stock
+  abbrev stocks : List SeatBuffers
   stocks = map stock_of (places_at_first first n b)
 
-  buffer_at_first : (i k : ℕ) → i < n → buffer_at blank stocks i k ≡ untouched
-  buffer_at_first i k li = ap (λ (s : Stock). buffer_of s k) (stock_from 0 n i li) ∙ same_everywhere b k untouched
+  buffer_at_first : (i k : ℕ) → i < n → buffer_at zero_memory stocks i k ≡ fresh_buffer
+  buffer_at_first i k li = ap (λ (s : SeatBuffers). buffer_of s k) (stock_from 0 n i li) ∙ same_everywhere b k fresh_buffer
 
-  none_due : (i k j : ℕ) → i < n → j < n → due blank stocks i k j ≡ 0
+  none_due : (i k j : ℕ) → i < n → j < n → due zero_memory stocks i k j ≡ 0
   none_due i k j li lj =
-      due_is blank stocks i k j
+      due_is zero_memory stocks i k j
       ∙ ((λ t. (ap (λ (c : Buffer). bit_at c.to_post j) (buffer_at_first i k li) ∙ bit_at-zero j) t + bit_at-zero (k % 64) t
-      + (ap (λ (s : Stock). bit_at (slice_index s.holds i) k) (stock_from 0 n j lj) ∙ (ap (λ (w : ℕ). bit_at w k) (same_everywhere n i 0) ∙ bit_at-zero k)) t)
+      + (ap (λ (s : SeatBuffers). bit_at (slice_index s.holds i) k) (stock_from 0 n j lj) ∙ (ap (λ (w : ℕ). bit_at w k) (same_everywhere n i 0) ∙ bit_at-zero k)) t)
       ∙ omega arith)
 
-  pub pool_at_first : Pool blank stocks n b
+  pub pool_at_first : Pool zero_memory stocks n b
   pool_at_first = record {
     seats = length-map (places_at_first first n b) stock_of ∙ length_places_from 0 n;
-    sized = λ i li. (ap (λ (s : Stock). length s.buffers) (stock_from 0 n i li) ∙ length-replicate b untouched, ap (λ (s : Stock). length s.holds) (stock_from 0 n i li) ∙ length-replicate n 0);
-    counted = λ i k li lk. sym (sum_zero (due blank stocks i k) n (λ j lj. none_due i k j li lj));
+    sized = λ i li. (ap (λ (s : SeatBuffers). length s.buffers) (stock_from 0 n i li) ∙ length-replicate b fresh_buffer, ap (λ (s : SeatBuffers). length s.holds) (stock_from 0 n i li) ∙ length-replicate n 0);
+    counted = λ i k li lk. sym (sum_zero (due zero_memory stocks i k) n (λ j lj. none_due i k j li lj));
     once = λ i k j li lk lj. let z = none_due i k j li lj in omega arith;
     others = λ i k li lk. none_due i k i li li;
     free = λ i k li lk is. refl;
@@ -86,14 +86,14 @@ module _ {V : Type 0} (first : ℕ → V) (n b : ℕ) where
     narrow = λ j i w k lj li on. let z : 0 ≡ 1 = sym (bit_at-zero k) ∙ on in absurd (omega arith);
   }
 
-  pub floored_at_first : n ≤ 16 → b ≤ 1024 → Floored b blank (places_at_first first n b)
+  pub floored_at_first : n ≤ 16 → b ≤ 1024 → FloorHolds b zero_memory (places_at_first first n b)
   floored_at_first few small =
       let long = length_places_from 0 n in
       let zero_small : 0 ≤ 1 = omega arith in
       record {
         few = subst (λ (k : ℕ). k ≤ 16) (sym long) few;
         small = small;
-        each = λ j p e. subst (λ (x : ℕ). OwnFits blank x b j p.own) (sym long) (subst (OwnFits blank n b j) (sym (client_at_first j p e).1) (own_fits_at_first j));
-        pool = subst (λ (k : ℕ). Pool blank stocks k b) (sym long) pool_at_first;
+        each = λ j p e. subst (λ (x : ℕ). OwnFits zero_memory x b j p.own) (sym long) (subst (OwnFits zero_memory n b j) (sym (client_at_first j p e).1) (own_fits_at_first j));
+        pool = subst (λ (k : ℕ). Pool zero_memory stocks k b) (sym long) pool_at_first;
         stop = zero_small;
       }

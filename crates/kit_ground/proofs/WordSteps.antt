@@ -9,19 +9,19 @@ use lib.ListN.{get_elem?}
 use Rattle.kit_ground.specs.declared.address.Address.{Address}
 use Rattle.kit_ground.specs.declared.place.Deed.{Deed}
 use Rattle.kit_ground.specs.declared.place.Deed.TheVariants.{Looked, Published, Stopped, SawStop, SawFree, Wrote, Charged, PostedTo, Collected, ReadPart, Released}
-use Rattle.kit_ground.specs.declared.place.Own.{Own}
+use Rattle.kit_ground.specs.declared.place.SeatState.{SeatState}
 use Rattle.kit_ground.specs.declared.place.Place.{Place}
-use Rattle.kit_ground.specs.Memory.{Memory, stored}
+use Rattle.kit_ground.specs.Memory.{Memory, with_word}
 use Rattle.kit_ground.specs.Layout.{size_of, is_there, index_of, memory_of}
-use Rattle.kit_ground.specs.Steps.{acted, address_of, becomes, Allowed}
-use Rattle.kit_ground.specs.Rules.{Rule, Floored, World, Keeps}
+use Rattle.kit_ground.specs.Steps.{place_after, address_of, becomes, Allowed}
+use Rattle.kit_ground.specs.Rules.{Rule, FloorHolds, World, Keeps}
 use Rattle.kit_ground.specs.Words.{RuledWords}
 use Rattle.kit_ground.proofs.Layouts.{memory_set}
 use Rattle.kit_ground.proofs.Lists.{at_inside}
 use Rattle.kit_ground.proofs.MailWords.{word_there}
 use Rattle.kit_ground.proofs.FloorSteps.{floored_after}
 
-pub own_there : (o : Own) (deed : Deed) (old : ℕ) → o.number < o.federates → Allowed o deed old → is_there o.federates o.buffers (address_of o deed) ≡ true
+pub own_there : (o : SeatState) (deed : Deed) (old : ℕ) → o.number < o.federates → Allowed o deed old → is_there o.federates o.buffers (address_of o deed) ≡ true
 own_there o (Looked r word) old me h = both_true (lt-ltb _ _ h.0.0) (lt-ltb _ _ h.0.1)
 own_there o (Published r word) old me h = both_true (lt-ltb _ _ (let e = h.0 in omega arith)) (lt-ltb _ _ h.1)
 own_there o Stopped old me h = refl
@@ -53,7 +53,7 @@ module _ {V : Type 0} (rule : Rule V) (b : ℕ) (words : List ℕ) (places : Lis
   -- the world in which the seat makes its step
   pub world : World rule p memory places
   world = record {
-    floor = subst (λ (x : ℕ). Floored x memory places) (sym buffers) ruled.floor;
+    floor = subst (λ (x : ℕ). FloorHolds x memory places) (sym buffers) ruled.floor;
     client = ruled.client;
     here = subst (λ (x : ℕ). get_elem? places x ≡ some p) (sym number) at;
   }
@@ -66,38 +66,38 @@ module _ {V : Type 0} (rule : Rule V) (b : ℕ) (words : List ℕ) (places : Lis
 
   -- a step that is allowed, and after which the client's rule holds
   pub words_after : (next : Deed → Place V → V) (deed : Deed) → Allowed p.own deed (memory (address_of p.own deed))
-      → rule.holds (stored memory (address_of p.own deed) (becomes deed (memory (address_of p.own deed)))) (slice_set places me (acted next deed p))
-      → RuledWords rule b (slice_set words (index_of (length places) b (address_of p.own deed)) (becomes deed (memory (address_of p.own deed)))) (slice_set places me (acted next deed p))
+      → rule.holds (with_word memory (address_of p.own deed) (becomes deed (memory (address_of p.own deed)))) (slice_set places me (place_after next deed p))
+      → RuledWords rule b (slice_set words (index_of (length places) b (address_of p.own deed)) (becomes deed (memory (address_of p.own deed)))) (slice_set places me (place_after next deed p))
   words_after next deed allowed client =
       let a = address_of p.own deed in
       let word : ℕ = becomes deed (memory a) in
       let i : ℕ = index_of (length places) b a in
-      let new = slice_set places me (acted next deed p) in
-      let many : length new ≡ length places = length-set places me (acted next deed p) in
-      let stores : stored memory a word ≡ memory_of (length new) b (slice_set words i word) =
+      let new = slice_set places me (place_after next deed p) in
+      let many : length new ≡ length places = length-set places me (place_after next deed p) in
+      let stores : with_word memory a word ≡ memory_of (length new) b (slice_set words i word) =
       sym (memory_set (length places) b words a word (there deed (memory a) allowed) ruled.sized) ∙ ap (λ (k : ℕ). memory_of k b (slice_set words i word)) (sym many) in
       record {
         sized = length-set words i word ∙ (ruled.sized ∙ ap (λ (k : ℕ). size_of k b) (sym many));
-        floor = subst (λ (m : Memory). Floored b m new) stores (floored_after b memory places me p next deed ruled.floor at allowed);
+        floor = subst (λ (m : Memory). FloorHolds b m new) stores (floored_after b memory places me p next deed ruled.floor at allowed);
         client = subst (λ (m : Memory). rule.holds m new) stores client;
       }
 
   -- a step that is allowed and that the client keeps its rule by, in every world
   pub words_step : (next : Deed → Place V → V) (a : Address) (deed : ℕ → Deed) → a ≡ address_of p.own (deed (memory a)) → Allowed p.own (deed (memory a)) (memory a) → Keeps rule next p a deed
-      → RuledWords rule b (slice_set words (index_of (length places) b a) (becomes (deed (memory a)) (memory a))) (slice_set places me (acted next (deed (memory a)) p))
+      → RuledWords rule b (slice_set words (index_of (length places) b a) (becomes (deed (memory a)) (memory a))) (slice_set places me (place_after next (deed (memory a)) p))
   words_step next a deed is allowed keeps =
       let d : Deed = deed (memory a) in
       let kept = (keeps memory places world).client in
-      let client = subst (λ (x : Address × ℕ). rule.holds (stored memory x.0 (becomes d (memory x.0))) (slice_set places x.1 (acted next d p))) (λ i. (is i, number i)) kept in
+      let client = subst (λ (x : Address × ℕ). rule.holds (with_word memory x.0 (becomes d (memory x.0))) (slice_set places x.1 (place_after next d p))) (λ i. (is i, number i)) kept in
       let made = words_after next d (subst (λ (x : Address). Allowed p.own d (memory x)) is allowed) client in
-      subst (λ (x : Address). RuledWords rule b (slice_set words (index_of (length places) b x) (becomes d (memory x))) (slice_set places me (acted next d p))) (sym is) made
+      subst (λ (x : Address). RuledWords rule b (slice_set words (index_of (length places) b x) (becomes d (memory x))) (slice_set places me (place_after next d p))) (sym is) made
 
   -- and by which each guest keeps what the rule asks of it
   pub guests_step : (next : Deed → Place V → V) (a : Address) (deed : ℕ → Deed) → a ≡ address_of p.own (deed (memory a)) → Allowed p.own (deed (memory a)) (memory a) → Keeps rule next p a deed
       → (g : Place V) → rule.sees memory places g
-      → rule.sees (memory_of (length places) b (slice_set words (index_of (length places) b a) (becomes (deed (memory a)) (memory a)))) (slice_set places me (acted next (deed (memory a)) p)) g
+      → rule.sees (memory_of (length places) b (slice_set words (index_of (length places) b a) (becomes (deed (memory a)) (memory a)))) (slice_set places me (place_after next (deed (memory a)) p)) g
   guests_step next a deed is allowed keeps g h =
       let d : Deed = deed (memory a) in
       let here : is_there (length places) b a ≡ true = subst (λ (x : Address). is_there (length places) b x ≡ true) (sym is) (there d (memory a) allowed) in
       let stores = memory_set (length places) b words a (becomes d (memory a)) here ruled.sized in
-      subst (λ (x : Memory × ℕ). rule.sees x.0 (slice_set places x.1 (acted next d p)) g) (λ i. (sym stores i, number i)) ((keeps memory places world).guests g h)
+      subst (λ (x : Memory × ℕ). rule.sees x.0 (slice_set places x.1 (place_after next d p)) g) (λ i. (sym stores i, number i)) ((keeps memory places world).guests g h)

@@ -6,12 +6,12 @@ use Rattle.kit_ground.specs.Floors.{Floor, memory, place_of}
 use Rattle.kit_ground.specs.Steps.{IsStep}
 
 -- one step of the federate that is seated, which did this, led from the one floor to the other
-pub record Did {O V : Type 0} (first : O → ℕ → V) (f : Floor O V) (deed : Deed) (h : Floor O V) : Type 0 where
+pub record IsOneStep {O V : Type 0} (first : O → ℕ → V) (f : Floor O V) (deed : Deed) (h : Floor O V) : Type 0 where
   pub step : IsStep (place_of first f).own deed (memory f) (memory h)
   pub steps : h.steps ≡ f.steps ++ f.seated ∷ []
 
 -- steps of the federate that is seated led from the one floor to the other
-pub record Came {O V : Type 0} (first : O → ℕ → V) (f h : Floor O V) : Type 0 where
+pub record AreSteps {O V : Type 0} (first : O → ℕ → V) (f h : Floor O V) : Type 0 where
   pub opening : h.opening ≡ f.opening
   pub buffers : h.buffers ≡ f.buffers
   pub seated : h.seated ≡ f.seated
@@ -25,10 +25,10 @@ replicate-add : {A : Type 0} (m n : ℕ) (x : A) → replicate m x ++ replicate 
 replicate-add zero n x = let e : n ≡ 0 + n = omega arith in ap (λ (k : ℕ). replicate k x) e
 replicate-add (suc m) n x = let e : suc (m + n) ≡ suc m + n = omega arith in ap (λ l. x ∷ l) (replicate-add m n x) ∙ ap (λ (k : ℕ). replicate k x) e
 
-pub came_here : {O V : Type 0} (first : O → ℕ → V) (f : Floor O V) → Came first f f
+pub came_here : {O V : Type 0} (first : O → ℕ → V) (f : Floor O V) → AreSteps first f f
 came_here first f = record { opening = refl; buffers = refl; seated = refl; many = refl; others = λ k other. refl; made = 0; steps = sym (append-nil f.steps); counted = omega arith }
 
-pub came_on : {O V : Type 0} (first : O → ℕ → V) (f g h : Floor O V) → Came first f g → Came first g h → Came first f h
+pub came_on : {O V : Type 0} (first : O → ℕ → V) (f g h : Floor O V) → AreSteps first f g → AreSteps first g h → AreSteps first f h
 came_on first f g h a b = record {
   opening = b.opening ∙ a.opening;
   buffers = b.buffers ∙ a.buffers;

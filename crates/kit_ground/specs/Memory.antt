@@ -16,5 +16,5 @@ same_address (Part i k p) (Part h l q) = i == h && k == l && p == q
 same_address _ _ = false
 
 -- the memory in which one word was stored
-abbrev pub stored : Memory → Address → ℕ → Memory
-stored m a v x = if same_address x a then v else m x
+abbrev pub with_word : Memory → Address → ℕ → Memory
+with_word m a v x = if same_address x a then v else m x

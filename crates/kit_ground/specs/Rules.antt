@@ -5,16 +5,16 @@ use lib.ListN.{get_elem?}
 use Rattle.kit_ground.specs.declared.address.Address.{Address}
 use Rattle.kit_ground.specs.declared.address.Address.TheVariants.{Register, Stop}
 use Rattle.kit_ground.specs.declared.place.Deed.{Deed}
-use Rattle.kit_ground.specs.declared.place.Own.{Own}
+use Rattle.kit_ground.specs.declared.place.SeatState.{SeatState}
 use Rattle.kit_ground.specs.declared.place.Place.{Place}
-use Rattle.kit_ground.specs.declared.place.Stock.{Stock}
+use Rattle.kit_ground.specs.declared.place.SeatBuffers.{SeatBuffers}
 use Rattle.kit_ground.specs.Layout.{mail_words}
-use Rattle.kit_ground.specs.Memory.{Memory, stored}
+use Rattle.kit_ground.specs.Memory.{Memory, with_word}
 use Rattle.kit_ground.specs.Sets.{Pool}
-use Rattle.kit_ground.specs.Steps.{acted, becomes, untouched}
+use Rattle.kit_ground.specs.Steps.{place_after, becomes, fresh_buffer}
 
 -- what holds of what the seat j, of n with b buffers each, knows of itself
-pub record OwnFits (m : Memory) (n b j : ℕ) (o : Own) : Type 0 where
+pub record OwnFits (m : Memory) (n b j : ℕ) (o : SeatState) : Type 0 where
   pub number : o.number ≡ j
   pub federates : o.federates ≡ n
   pub buffers : o.buffers ≡ b
@@ -33,11 +33,11 @@ pub record Rule (V : Type 0) : Type 1 where
   pub sees : Memory → List (Place V) → Place V → Type 0
 
 module _ {V : Type 0} where
-  abbrev pub stock_of : Place V → Stock
+  abbrev pub stock_of : Place V → SeatBuffers
   stock_of p = p.own.stock
 
   -- the floor's own rule, of federates with b buffers each
-  pub record Floored (b : ℕ) (m : Memory) (places : List (Place V)) : Type 0 where
+  pub record FloorHolds (b : ℕ) (m : Memory) (places : List (Place V)) : Type 0 where
     pub few : length places ≤ 16
     pub small : b ≤ 1024
     pub each : (j : ℕ) (p : Place V) → get_elem? places j ≡ some p → OwnFits m (length places) b j p.own
@@ -46,26 +46,26 @@ module _ {V : Type 0} where
 
   -- a world in which the floor's rule and the client's hold, and a federate has the place p
   pub record World (rule : Rule V) (p : Place V) (m : Memory) (places : List (Place V)) : Type 0 where
-    pub floor : Floored p.own.buffers m places
+    pub floor : FloorHolds p.own.buffers m places
     pub client : rule.holds m places
     pub here : get_elem? places p.own.number ≡ some p
 
   -- the client's rule holds after a step, and each guest that it held of keeps it
-  pub record Kept (rule : Rule V) (m : Memory) (places : List (Place V)) (now : Memory) (after : List (Place V)) : Type 0 where
+  pub record RuleStays (rule : Rule V) (m : Memory) (places : List (Place V)) (now : Memory) (after : List (Place V)) : Type 0 where
     pub client : rule.holds now after
     pub guests : (g : Place V) → rule.sees m places g → rule.sees now after g
 
   -- so it is in every world, for a step on this address; what the step is may depend on the word that it finds
   abbrev pub Keeps : Rule V → (Deed → Place V → V) → Place V → Address → (ℕ → Deed) → Type 0
   Keeps rule next p a deed = (m : Memory) (places : List (Place V)) → World rule p m places
-      → Kept rule m places (stored m a (becomes (deed (m a)) (m a))) (slice_set places p.own.number (acted next (deed (m a)) p))
+      → RuleStays rule m places (with_word m a (becomes (deed (m a)) (m a))) (slice_set places p.own.number (place_after next (deed (m a)) p))
 
   -- there was such a world, and this word was in it
-  abbrev pub Told : Rule V → Place V → Address → ℕ → Type 0
-  Told rule p a word = (m : Memory) × (places : List (Place V)) × World rule p m places × (m a ≡ word)
+  abbrev pub WasFound : Rule V → Place V → Address → ℕ → Type 0
+  WasFound rule p a word = (m : Memory) × (places : List (Place V)) × World rule p m places × (m a ≡ word)
 
 -- what the seat k, of n with b buffers each, knows at first
-abbrev pub own_at_first : ℕ → ℕ → ℕ → Own
+abbrev pub own_at_first : ℕ → ℕ → ℕ → SeatState
 own_at_first n b k = record {
   number = k;
   federates = n;
@@ -79,7 +79,7 @@ own_at_first n b k = record {
   stop = record { step = 0; gave = false };
   shown = replicate 13 0;
   collects = replicate (mail_words b * n) 0;
-  stock = record { buffers = replicate b untouched; holds = replicate n 0 };
+  stock = record { buffers = replicate b fresh_buffer; holds = replicate n 0 };
 }
 
 -- the places at first: m of n, from the seat k on
@@ -91,5 +91,5 @@ abbrev pub places_at_first : {V : Type 0} → (ℕ → V) → ℕ → ℕ → Li
 places_at_first first n b = places_from first n b 0 n
 
 -- the memory at first
-abbrev pub blank : Memory
-blank _ = 0
+abbrev pub zero_memory : Memory
+zero_memory _ = 0

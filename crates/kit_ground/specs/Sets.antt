@@ -3,7 +3,7 @@ use Rattle.std.specs.Prelude.{◌≡◌, ℕ, zero, suc, ◌+◌, ◌*◌, ◌/�
 use Rattle.std.specs.Int.{bit_at}
 use Rattle.kit_ground.specs.declared.address.Address.TheVariants.{Mail, Count, Part}
 use Rattle.kit_ground.specs.declared.place.Buffer.{Buffer}
-use Rattle.kit_ground.specs.declared.place.Stock.{Stock}
+use Rattle.kit_ground.specs.declared.place.SeatBuffers.{SeatBuffers}
 use Rattle.kit_ground.specs.Memory.{Memory}
 use Rattle.kit_ground.specs.Steps.{buffer_of, part_of}
 
@@ -11,13 +11,13 @@ abbrev pub sum_to : (ℕ → ℕ) → ℕ → ℕ
 sum_to f zero = 0
 sum_to f (suc n) = sum_to f n + f n
 
-abbrev pub nothing : Stock
-nothing = record { buffers = []; holds = [] }
+abbrev pub no_buffers : SeatBuffers
+no_buffers = record { buffers = []; holds = [] }
 
-abbrev pub stock_at : List Stock → ℕ → Stock
-stock_at stocks i = slice_index_or stocks i nothing
+abbrev pub stock_at : List SeatBuffers → ℕ → SeatBuffers
+stock_at stocks i = slice_index_or stocks i no_buffers
 
-module _ (m : Memory) (stocks : List Stock) where
+module _ (m : Memory) (stocks : List SeatBuffers) where
   abbrev pub buffer_at : ℕ → ℕ → Buffer
   buffer_at i k = buffer_of (stock_at stocks i) k
 

@@ -9,11 +9,11 @@ use Rattle.kit_ground.specs.declared.place.Buffer.{Buffer}
 use Rattle.kit_ground.specs.declared.place.Deed.{Deed}
 use Rattle.kit_ground.specs.declared.place.Deed.TheVariants.{Looked, Published, Stopped, SawStop, SawFree, Wrote, Charged, PostedTo, Collected, ReadPart, Released}
 use Rattle.kit_ground.specs.declared.place.Glance.{Glance}
-use Rattle.kit_ground.specs.declared.place.Own.{Own}
+use Rattle.kit_ground.specs.declared.place.SeatState.{SeatState}
 use Rattle.kit_ground.specs.declared.place.Place.{Place}
-use Rattle.kit_ground.specs.declared.place.Stock.{Stock}
+use Rattle.kit_ground.specs.declared.place.SeatBuffers.{SeatBuffers}
 use Rattle.kit_ground.specs.Layout.{mail_words}
-use Rattle.kit_ground.specs.Memory.{Memory, stored}
+use Rattle.kit_ground.specs.Memory.{Memory, with_word}
 
 -- a register of a floor of n federates
 abbrev pub IsReg : ℕ → Reg → Type 0
@@ -24,13 +24,13 @@ abbrev pub reg_index : Reg → ℕ
 reg_index r = 13 * r.owner + r.slot
 
 -- a buffer that was never touched
-abbrev pub untouched : Buffer
-untouched = record { free = false; head = 0; body = 0; has_head = false; has_body = false; to_post = 0 }
+abbrev pub fresh_buffer : Buffer
+fresh_buffer = record { free = false; head = 0; body = 0; has_head = false; has_body = false; to_post = 0 }
 
-abbrev pub buffer_of : Stock → ℕ → Buffer
-buffer_of s k = slice_index_or s.buffers k untouched
+abbrev pub buffer_of : SeatBuffers → ℕ → Buffer
+buffer_of s k = slice_index_or s.buffers k fresh_buffer
 
-abbrev pub with_buffer : ℕ → Buffer → Stock → Stock
+abbrev pub with_buffer : ℕ → Buffer → SeatBuffers → SeatBuffers
 with_buffer k c s = record s { buffers = slice_set s.buffers k c }
 
 -- the content word that the owner last wrote
@@ -39,60 +39,60 @@ part_of zero c = c.head
 part_of (suc _) c = c.body
 
 -- what each step does to a buffer
-abbrev pub seen : Bool → Buffer → Buffer
-seen free c = record c { free = free }
+abbrev pub buffer_after_look : Bool → Buffer → Buffer
+buffer_after_look free c = record c { free = free }
 
-abbrev pub written : ℕ → ℕ → Buffer → Buffer
-written zero word c = record c { head = word; has_head = true }
-written (suc _) word c = record c { body = word; has_body = true }
+abbrev pub buffer_after_write : ℕ → ℕ → Buffer → Buffer
+buffer_after_write zero word c = record c { head = word; has_head = true }
+buffer_after_write (suc _) word c = record c { body = word; has_body = true }
 
-abbrev pub charged : ℕ → Buffer → Buffer
-charged mask c = record c { free = false; has_head = false; has_body = false; to_post = mask }
+abbrev pub buffer_after_charge : ℕ → Buffer → Buffer
+buffer_after_charge mask c = record c { free = false; has_head = false; has_body = false; to_post = mask }
 
-abbrev pub posted_to : ℕ → Buffer → Buffer
-posted_to j c = record c { to_post = bit_xor c.to_post (2 ^ j) }
+abbrev pub buffer_after_post : ℕ → Buffer → Buffer
+buffer_after_post j c = record c { to_post = bit_xor c.to_post (2 ^ j) }
 
 -- the buffers of i in this mail word, as a mask of all its buffers
 abbrev pub mail_mask : ℕ → ℕ → ℕ
 mail_mask w mail = mail * 2 ^ (64 * w)
 
 -- the buffers of i in this mail word are held from now on
-abbrev pub collected : ℕ → ℕ → ℕ → Stock → Stock
-collected i w mail s = record s { holds = slice_set s.holds i (bit_or (slice_index s.holds i) (mail_mask w mail)) }
+abbrev pub stock_after_collect : ℕ → ℕ → ℕ → SeatBuffers → SeatBuffers
+stock_after_collect i w mail s = record s { holds = slice_set s.holds i (bit_or (slice_index s.holds i) (mail_mask w mail)) }
 
 -- the buffer k of i is held no more
-abbrev pub released : ℕ → ℕ → Stock → Stock
-released i k s = record s { holds = slice_set s.holds i (bit_xor (slice_index s.holds i) (2 ^ k)) }
+abbrev pub stock_after_release : ℕ → ℕ → SeatBuffers → SeatBuffers
+stock_after_release i k s = record s { holds = slice_set s.holds i (bit_xor (slice_index s.holds i) (2 ^ k)) }
 
-abbrev pub stock_after : Deed → Stock → Stock
-stock_after (SawFree k free) s = with_buffer k (seen free (buffer_of s k)) s
-stock_after (Wrote k p word) s = with_buffer k (written p word (buffer_of s k)) s
-stock_after (Charged k mask) s = with_buffer k (charged mask (buffer_of s k)) s
-stock_after (PostedTo k j) s = with_buffer k (posted_to j (buffer_of s k)) s
-stock_after (Collected i w mail) s = collected i w mail s
-stock_after (Released i k) s = released i k s
+abbrev pub stock_after : Deed → SeatBuffers → SeatBuffers
+stock_after (SawFree k free) s = with_buffer k (buffer_after_look free (buffer_of s k)) s
+stock_after (Wrote k p word) s = with_buffer k (buffer_after_write p word (buffer_of s k)) s
+stock_after (Charged k mask) s = with_buffer k (buffer_after_charge mask (buffer_of s k)) s
+stock_after (PostedTo k j) s = with_buffer k (buffer_after_post j (buffer_of s k)) s
+stock_after (Collected i w mail) s = stock_after_collect i w mail s
+stock_after (Released i k) s = stock_after_release i k s
 stock_after _ s = s
 
 -- the last looks, after the step of this number
 abbrev pub registers_after : Deed → ℕ → List (Glance ℕ) → List (Glance ℕ)
-registers_after (Looked r word) step seen = slice_set seen (reg_index r) (record { step = step; gave = word })
-registers_after _ step seen = seen
+registers_after (Looked r word) step buffer_after_look = slice_set buffer_after_look (reg_index r) (record { step = step; gave = word })
+registers_after _ step buffer_after_look = buffer_after_look
 
 abbrev pub counts_after : Deed → ℕ → List (Glance Bool) → List (Glance Bool)
-counts_after (SawFree k free) step seen = slice_set seen k (record { step = step; gave = free })
-counts_after _ step seen = seen
+counts_after (SawFree k free) step buffer_after_look = slice_set buffer_after_look k (record { step = step; gave = free })
+counts_after _ step buffer_after_look = buffer_after_look
 
 -- where the mail word w of the federate i stands among all, where there are m for each
 abbrev pub mail_index : ℕ → ℕ → ℕ → ℕ
 mail_index m i w = i * m + w
 
 abbrev pub mail_after : Deed → ℕ → ℕ → List (Glance ℕ) → List (Glance ℕ)
-mail_after (Collected i w mail) m step seen = slice_set seen (mail_index m i w) (record { step = step; gave = mail })
-mail_after _ m step seen = seen
+mail_after (Collected i w mail) m step buffer_after_look = slice_set buffer_after_look (mail_index m i w) (record { step = step; gave = mail })
+mail_after _ m step buffer_after_look = buffer_after_look
 
 abbrev pub stop_after : Deed → ℕ → Glance Bool → Glance Bool
-stop_after (SawStop set) step seen = record { step = step; gave = set }
-stop_after _ step seen = seen
+stop_after (SawStop set) step buffer_after_look = record { step = step; gave = set }
+stop_after _ step buffer_after_look = buffer_after_look
 
 abbrev pub shown_after : Deed → List ℕ → List ℕ
 shown_after (Published r word) shown = slice_set shown r.slot word
@@ -111,7 +111,7 @@ stops_after Stopped stops = stops + 1
 stops_after _ stops = stops
 
 -- what a seat knows of itself after a step
-abbrev pub own_after : Deed → Own → Own
+abbrev pub own_after : Deed → SeatState → SeatState
 own_after deed o = record {
   number = o.number;
   federates = o.federates;
@@ -129,7 +129,7 @@ own_after deed o = record {
 }
 
 -- which word a step is on
-abbrev pub address_of : Own → Deed → Address
+abbrev pub address_of : SeatState → Deed → Address
 address_of o (Looked r word) = Register r
 address_of o (Published r word) = Register r
 address_of o Stopped = Stop
@@ -154,15 +154,15 @@ becomes (Released i k) old = (old + (2 ^ 64 - 1)) % 2 ^ 64
 becomes _ old = old
 
 -- the own buffer k was seen free, is not charged since, and both its parts are written
-abbrev pub IsChargeable : Own → ℕ → Type 0
+abbrev pub IsChargeable : SeatState → ℕ → Type 0
 IsChargeable o k = ((buffer_of o.stock k).free ≡ true) × ((buffer_of o.stock k).has_head ≡ true) × ((buffer_of o.stock k).has_body ≡ true)
 
 -- a set of federates to charge for: not empty, and without the seat itself
-abbrev pub IsMask : Own → ℕ → Type 0
+abbrev pub IsMask : SeatState → ℕ → Type 0
 IsMask o mask = (mask ≢ 0) × (mask < 2 ^ o.federates) × (bit_at mask o.number ≡ 0)
 
 -- where a step is allowed, and what it answers where the word is `old`
-abbrev pub Allowed : Own → Deed → ℕ → Type 0
+abbrev pub Allowed : SeatState → Deed → ℕ → Type 0
 Allowed o (Looked r word) old = IsReg o.federates r × (word ≡ old)
 Allowed o (Published r word) old = (r.owner ≡ o.number) × (r.slot < 13)
 Allowed o Stopped old = Unit {0}
@@ -176,10 +176,10 @@ Allowed o (ReadPart i k p word) old = (i < o.federates) × (k < o.buffers) × (p
 Allowed o (Released i k) old = (i < o.federates) × (k < o.buffers) × (bit_at (slice_index o.stock.holds i) k ≡ 1)
 
 -- one step of the floor machine, by a seat that knows this of itself: it is allowed, and one word is stored
-pub record IsStep (o : Own) (deed : Deed) (m now : Memory) : Type 0 where
+pub record IsStep (o : SeatState) (deed : Deed) (m now : Memory) : Type 0 where
   pub allowed : Allowed o deed (m (address_of o deed))
-  pub stores : now ≡ stored m (address_of o deed) (becomes deed (m (address_of o deed)))
+  pub stores : now ≡ with_word m (address_of o deed) (becomes deed (m (address_of o deed)))
 
 -- what a seat knows and its client's view, after a step
-abbrev pub acted : {V : Type 0} → (Deed → Place V → V) → Deed → Place V → Place V
-acted next deed p = record { own = own_after deed p.own; client = next deed p }
+abbrev pub place_after : {V : Type 0} → (Deed → Place V → V) → Deed → Place V → Place V
+place_after next deed p = record { own = own_after deed p.own; client = next deed p }

@@ -41,8 +41,8 @@ pub trait Ground {
     ghost use Rattle.kit_ground.specs.declared.place.Deed.TheVariants.{Looked, Published, Stopped, SawStop, SawFree, Wrote, Charged, PostedTo, Collected, ReadPart, Released};
     ghost use Rattle.kit_ground.specs.declared.place.Place.{Place};
     ghost use Rattle.kit_ground.specs.Layout.{mail_words};
-    ghost use Rattle.kit_ground.specs.Rules.{Keeps, Told};
-    ghost use Rattle.kit_ground.specs.Steps.{IsReg, IsChargeable, IsMask, acted, buffer_of};
+    ghost use Rattle.kit_ground.specs.Rules.{Keeps, WasFound};
+    ghost use Rattle.kit_ground.specs.Steps.{IsReg, IsChargeable, IsMask, place_after, buffer_of};
 
     type Under: Protocol;
 
@@ -73,8 +73,8 @@ pub trait Ground {
         requires rule { Keeps Self.Under.rule E.next (place self.old) (Register reg) (λ word. Looked reg word) }
         ensures came { came self.old self.new }
         ensures did { did self.old (Looked reg result) self.new }
-        ensures place { place self.new ≡ acted E.next (Looked reg result) (place self.old) }
-        ensures told { Told Self.Under.rule (place self.old) (Register reg) result };
+        ensures place { place self.new ≡ place_after E.next (Looked reg result) (place self.old) }
+        ensures told { WasFound Self.Under.rule (place self.old) (Register reg) result };
 
     /// Stores an own register.
     fn publish<E: Event<<Self::Under as Protocol>::View>>(&mut self, reg: Reg, word: u64)
@@ -83,24 +83,24 @@ pub trait Ground {
         requires rule { Keeps Self.Under.rule E.next (place self.old) (Register reg) (λ _. Published reg word) }
         ensures came { came self.old self.new }
         ensures did { did self.old (Published reg word) self.new }
-        ensures place { place self.new ≡ acted E.next (Published reg word) (place self.old) }
-        ensures told { (found : ℕ) × Told Self.Under.rule (place self.old) (Register reg) found };
+        ensures place { place self.new ≡ place_after E.next (Published reg word) (place self.old) }
+        ensures told { (found : ℕ) × WasFound Self.Under.rule (place self.old) (Register reg) found };
 
     /// Stores 1 in the stop word.
     fn stop<E: Event<<Self::Under as Protocol>::View>>(&mut self)
         requires rule { Keeps Self.Under.rule E.next (place self.old) Stop (λ _. Stopped) }
         ensures came { came self.old self.new }
         ensures did { did self.old Stopped self.new }
-        ensures place { place self.new ≡ acted E.next Stopped (place self.old) }
-        ensures told { (found : ℕ) × Told Self.Under.rule (place self.old) Stop found };
+        ensures place { place self.new ≡ place_after E.next Stopped (place self.old) }
+        ensures told { (found : ℕ) × WasFound Self.Under.rule (place self.old) Stop found };
 
     /// Whether the stop word was 1.
     fn stopped<E: Event<<Self::Under as Protocol>::View>>(&mut self) -> bool
         requires rule { Keeps Self.Under.rule E.next (place self.old) Stop (λ word. SawStop (word == 1)) }
         ensures came { came self.old self.new }
         ensures did { did self.old (SawStop result) self.new }
-        ensures place { place self.new ≡ acted E.next (SawStop result) (place self.old) }
-        ensures told { (found : ℕ) × Told Self.Under.rule (place self.old) Stop found × (result ≡ (found == 1)) };
+        ensures place { place self.new ≡ place_after E.next (SawStop result) (place self.old) }
+        ensures told { (found : ℕ) × WasFound Self.Under.rule (place self.old) Stop found × (result ≡ (found == 1)) };
 
     /// Whether the count of an own buffer was 0; then nobody reads it any more. No post of the buffer
     /// may be owed.
@@ -110,8 +110,8 @@ pub trait Ground {
         requires rule { let p = place self.old in Keeps Self.Under.rule E.next p (Count p.own.number buffer) (λ count. SawFree buffer (count == 0)) }
         ensures came { came self.old self.new }
         ensures did { did self.old (SawFree buffer result) self.new }
-        ensures place { place self.new ≡ acted E.next (SawFree buffer result) (place self.old) }
-        ensures told { let p = place self.old in (count : ℕ) × Told Self.Under.rule p (Count p.own.number buffer) count × (result ≡ (count == 0)) };
+        ensures place { place self.new ≡ place_after E.next (SawFree buffer result) (place self.old) }
+        ensures told { let p = place self.old in (count : ℕ) × WasFound Self.Under.rule p (Count p.own.number buffer) count × (result ≡ (count == 0)) };
 
     /// Stores a content word of an own buffer that was seen free.
     fn write_part<E: Event<<Self::Under as Protocol>::View>>(
@@ -126,8 +126,8 @@ pub trait Ground {
         requires rule { let p = place self.old in Keeps Self.Under.rule E.next p (Part p.own.number buffer part) (λ _. Wrote buffer part word) }
         ensures came { came self.old self.new }
         ensures did { did self.old (Wrote buffer part word) self.new }
-        ensures place { place self.new ≡ acted E.next (Wrote buffer part word) (place self.old) }
-        ensures told { let p = place self.old in (found : ℕ) × Told Self.Under.rule p (Part p.own.number buffer part) found };
+        ensures place { place self.new ≡ place_after E.next (Wrote buffer part word) (place self.old) }
+        ensures told { let p = place self.old in (found : ℕ) × WasFound Self.Under.rule p (Part p.own.number buffer part) found };
 
     /// Counts the federates of the mask for an own buffer that was seen free and is written whole.
     fn charge<E: Event<<Self::Under as Protocol>::View>>(&mut self, buffer: u16, mask: u16)
@@ -137,8 +137,8 @@ pub trait Ground {
         requires rule { let p = place self.old in Keeps Self.Under.rule E.next p (Count p.own.number buffer) (λ _. Charged buffer mask) }
         ensures came { came self.old self.new }
         ensures did { did self.old (Charged buffer mask) self.new }
-        ensures place { place self.new ≡ acted E.next (Charged buffer mask) (place self.old) }
-        ensures told { let p = place self.old in (count : ℕ) × Told Self.Under.rule p (Count p.own.number buffer) count };
+        ensures place { place self.new ≡ place_after E.next (Charged buffer mask) (place self.old) }
+        ensures told { let p = place self.old in (count : ℕ) × WasFound Self.Under.rule p (Count p.own.number buffer) count };
 
     /// Posts an own buffer to a federate that it was charged for: sets its bit in that federate's
     /// mail.
@@ -149,8 +149,8 @@ pub trait Ground {
         requires rule { let p = place self.old in Keeps Self.Under.rule E.next p (Mail to p.own.number (buffer / 64)) (λ _. PostedTo buffer to) }
         ensures came { came self.old self.new }
         ensures did { did self.old (PostedTo buffer to) self.new }
-        ensures place { place self.new ≡ acted E.next (PostedTo buffer to) (place self.old) }
-        ensures told { let p = place self.old in (mail : ℕ) × Told Self.Under.rule p (Mail to p.own.number (buffer / 64)) mail };
+        ensures place { place self.new ≡ place_after E.next (PostedTo buffer to) (place self.old) }
+        ensures told { let p = place self.old in (mail : ℕ) × WasFound Self.Under.rule p (Mail to p.own.number (buffer / 64)) mail };
 
     /// Takes a mail word of another federate: bit `k` is for its buffer `64 * word + k`. The seat
     /// holds these buffers from now on.
@@ -161,8 +161,8 @@ pub trait Ground {
         requires rule { let p = place self.old in Keeps Self.Under.rule E.next p (Mail p.own.number from word) (λ mail. Collected from word mail) }
         ensures came { came self.old self.new }
         ensures did { did self.old (Collected from word result) self.new }
-        ensures place { place self.new ≡ acted E.next (Collected from word result) (place self.old) }
-        ensures told { let p = place self.old in Told Self.Under.rule p (Mail p.own.number from word) result };
+        ensures place { place self.new ≡ place_after E.next (Collected from word result) (place self.old) }
+        ensures told { let p = place self.old in WasFound Self.Under.rule p (Mail p.own.number from word) result };
 
     /// Loads a content word of a buffer that the seat holds.
     fn read_part<E: Event<<Self::Under as Protocol>::View>>(
@@ -178,8 +178,8 @@ pub trait Ground {
         requires rule { Keeps Self.Under.rule E.next (place self.old) (Part from buffer part) (λ word. ReadPart from buffer part word) }
         ensures came { came self.old self.new }
         ensures did { did self.old (ReadPart from buffer part result) self.new }
-        ensures place { place self.new ≡ acted E.next (ReadPart from buffer part result) (place self.old) }
-        ensures told { Told Self.Under.rule (place self.old) (Part from buffer part) result };
+        ensures place { place self.new ≡ place_after E.next (ReadPart from buffer part result) (place self.old) }
+        ensures told { WasFound Self.Under.rule (place self.old) (Part from buffer part) result };
 
     /// Gives a buffer back: its count falls by 1, and the seat holds it no more.
     fn release<E: Event<<Self::Under as Protocol>::View>>(&mut self, from: u8, buffer: u16)
@@ -189,8 +189,8 @@ pub trait Ground {
         requires rule { Keeps Self.Under.rule E.next (place self.old) (Count from buffer) (λ _. Released from buffer) }
         ensures came { came self.old self.new }
         ensures did { did self.old (Released from buffer) self.new }
-        ensures place { place self.new ≡ acted E.next (Released from buffer) (place self.old) }
-        ensures told { (count : ℕ) × Told Self.Under.rule (place self.old) (Count from buffer) count };
+        ensures place { place self.new ≡ place_after E.next (Released from buffer) (place self.old) }
+        ensures told { (count : ℕ) × WasFound Self.Under.rule (place self.old) (Count from buffer) count };
 
     ghost came_here: { (g : Self) → came g g };
 

@@ -85,13 +85,13 @@ pub struct Buffer {
 
 /// What a seat has in hand: its own buffers, and for each federate which of its buffers the seat is
 /// holding, as a mask with a bit for each buffer, however many there are.
-pub struct Stock {
+pub struct SeatBuffers {
     pub buffers: LinkedList<Buffer>,
     pub holds: LinkedList<u64>,
 }
 
 /// What a seat knows of itself, whatever its client is.
-pub struct Own {
+pub struct SeatState {
     pub number: u64,
     pub federates: u64,
     pub buffers: u64,
@@ -112,11 +112,11 @@ pub struct Own {
     pub shown: LinkedList<u64>,
     /// How often it has collected each mail word of each federate.
     pub collects: LinkedList<u64>,
-    pub stock: Stock,
+    pub stock: SeatBuffers,
 }
 
 /// A seat's place in the world: what it knows of itself, and what its client's view is.
 pub struct Place<V> {
-    pub own: Own,
+    pub own: SeatState,
     pub client: V,
 }

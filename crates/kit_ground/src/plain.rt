@@ -1,7 +1,7 @@
 ghost use Rattle.std.specs.Prelude.{◌≡◌, ◌<◌, ◌≤◌, ◌/◌, ◌%◌, ◌^◌, [], ◌∷◌, ◌++◌, bit_or, replicate, IfOk};
-ghost use Rattle.kit_ground.specs.Floors.{changed};
+ghost use Rattle.kit_ground.specs.Floors.{map_at};
 ghost use Rattle.kit_ground.specs.Layout.{size_of};
-ghost use Rattle.kit_ground.specs.Steps.{acted};
+ghost use Rattle.kit_ground.specs.Steps.{place_after};
 
 use crate::{Address, Deed, Event, Ground, Place, Protocol, Reg};
 use kit_known::{Known, Reads};
@@ -26,23 +26,23 @@ pub struct PlainFloor<P: Protocol> {
 
 impl<P: Protocol> Model for PlainFloor<P> {
     ghost use Rattle.std.specs.Prelude.{◌≡◌, length};
-    ghost use Rattle.kit_ground.specs.Floors.{Floor, Ruled};
+    ghost use Rattle.kit_ground.specs.Floors.{Floor, RulesHold};
 
     ghost Value = { Floor P.Opening P.View };
 
     ghost view = { λ f. record { opening = f.opening.value; buffers = f.buffers; words = f.words.items; places = f.places.value; seated = f.seated; steps = f.steps.value } };
 
-    ghost invariant = { λ f. Ruled P.rule (record { opening = f.opening.value; buffers = f.buffers; words = f.words.items; places = f.places.value; seated = f.seated; steps = f.steps.value }) × (f.federates ≡ length f.places.value) };
+    ghost invariant = { λ f. RulesHold P.rule (record { opening = f.opening.value; buffers = f.buffers; words = f.words.items; places = f.places.value; seated = f.seated; steps = f.steps.value }) × (f.federates ≡ length f.places.value) };
 }
 
 impl<P: Protocol> PlainFloor<P> {
     ghost use Rattle.std.specs.Prelude.{◌≡◌, ◌≤◌, ◌<◌, true, length, IfOk};
-    ghost use Rattle.kit_ground.specs.Coming.{Came, Did};
-    ghost use Rattle.kit_ground.specs.Floors.{Ruled, changed, memory, opened, place_of, stepped};
+    ghost use Rattle.kit_ground.specs.Coming.{AreSteps, IsOneStep};
+    ghost use Rattle.kit_ground.specs.Floors.{RulesHold, map_at, memory, new_floor, place_of, floor_after};
     ghost use Rattle.kit_ground.specs.Layout.{index_of, is_there};
-    ghost use Rattle.kit_ground.specs.Memory.{stored};
-    ghost use Rattle.kit_ground.specs.Rules.{blank, places_at_first};
-    ghost use Rattle.kit_ground.specs.Steps.{Allowed, acted, address_of, becomes};
+    ghost use Rattle.kit_ground.specs.Memory.{with_word};
+    ghost use Rattle.kit_ground.specs.Rules.{zero_memory, places_at_first};
+    ghost use Rattle.kit_ground.specs.Steps.{Allowed, place_after, address_of, becomes};
 
     /// A floor whose words are 0, with the client's opening. The first federate is seated.
     ///
@@ -55,8 +55,8 @@ impl<P: Protocol> PlainFloor<P> {
     ) -> Result<PlainFloor<P>, AllocError>
         requires federates { (1 ≤ federates) × (federates ≤ 16) }
         requires buffers { buffers ≤ 1024 }
-        requires rule { P.rule.holds blank (places_at_first (P.first opening.now) federates buffers) }
-        ensures { IfOk result (λ f. f ≡ opened P.first opening.now federates buffers) }
+        requires rule { P.rule.holds zero_memory (places_at_first (P.first opening.now) federates buffers) }
+        ensures { IfOk result (λ f. f ≡ new_floor P.first opening.now federates buffers) }
     {
         let words = zeros(alloc, federates, buffers)?;
         let laying = Laying {
@@ -87,7 +87,7 @@ impl<P: Protocol> PlainFloor<P> {
 
     /// Both rules hold, at every moment.
     pub fn ruled(&self)
-        ensures { Ruled P.rule self.now }
+        ensures { RulesHold P.rule self.now }
     {
         let _ = &self.words;
     }
@@ -97,7 +97,7 @@ impl<P: Protocol> PlainFloor<P> {
         ensures seated { result.0 ≡ self.now.seated }
         ensures federates { result.1 ≡ length self.now.places }
         ensures buffers { result.2 ≡ self.now.buffers }
-        ensures ruled { Ruled P.rule self.now }
+        ensures ruled { RulesHold P.rule self.now }
     {
         (self.seated, self.federates, self.buffers)
     }
@@ -121,8 +121,8 @@ impl<P: Protocol> PlainFloor<P> {
     /// A step of the seat that is seated, on the word `at`, which becomes `word`.
     fn act<E: Event<P::View>>(&mut self, at: usize, word: u64, deed: Deed)
         requires inside { at < length self.old.words }
-        requires kept { Ruled P.rule (stepped at word (acted E.next deed) self.old) }
-        ensures { self.new ≡ stepped at word (acted E.next deed) self.old }
+        requires kept { RulesHold P.rule (floor_after at word (place_after E.next deed) self.old) }
+        ensures { self.new ≡ floor_after at word (place_after E.next deed) self.old }
     {
         let me = self.seated;
         self.words[at] = word;
@@ -136,10 +136,10 @@ impl<P: Protocol> PlainFloor<P> {
         requires address { address ≡ address_of (place_of P.first self.old).own deed }
         requires word { word ≡ becomes deed found }
         requires allowed { Allowed (place_of P.first self.old).own deed found }
-        requires kept { P.rule.holds (stored (memory self.old) address word) (changed (acted E.next deed) self.old.seated self.old.places) }
-        ensures came { Came P.first self.old self.new }
-        ensures did { Did P.first self.old deed self.new }
-        ensures place { place_of P.first self.new ≡ acted E.next deed (place_of P.first self.old) }
+        requires kept { P.rule.holds (with_word (memory self.old) address word) (map_at (place_after E.next deed) self.old.seated self.old.places) }
+        ensures came { AreSteps P.first self.old self.new }
+        ensures did { IsOneStep P.first self.old deed self.new }
+        ensures place { place_of P.first self.new ≡ place_after E.next deed (place_of P.first self.old) }
     {
         self.ruled();
         let at = self.index(address);
@@ -222,10 +222,10 @@ struct Notes<E> {
 }
 
 impl<V, E: Event<V>> Reads<Noting<V>, LinkedList<Place<V>>> for Notes<E> {
-    ghost use Rattle.kit_ground.specs.Floors.{changed};
-    ghost use Rattle.kit_ground.specs.Steps.{acted};
+    ghost use Rattle.kit_ground.specs.Floors.{map_at};
+    ghost use Rattle.kit_ground.specs.Steps.{place_after};
 
-    ghost read = { λ x. changed (acted E.next x.deed) x.me x.places.value };
+    ghost read = { λ x. map_at (place_after E.next x.deed) x.me x.places.value };
 }
 
 struct Same;
@@ -246,7 +246,7 @@ fn noted<V, E: Event<V>>(
     me: u8,
     deed: Deed,
 ) -> Known<LinkedList<Place<V>>>
-    ensures { result.value ≡ changed (acted E.next deed) me places.now.value }
+    ensures { result.value ≡ map_at (place_after E.next deed) me places.now.value }
 {
     let noting = Noting {
         places: again(places),
@@ -273,16 +273,16 @@ fn counted(steps: &Known<LinkedList<u64>>, me: u8) -> Known<LinkedList<u64>>
 }
 
 impl<P: Protocol> Ground for PlainFloor<P> {
-    ghost use Rattle.kit_ground.specs.Coming.{Came, Did, came_here, came_on};
+    ghost use Rattle.kit_ground.specs.Coming.{AreSteps, IsOneStep, came_here, came_on};
     ghost use Rattle.kit_ground.specs.Floors.{place_of};
 
     type Under = P;
 
     ghost place = { λ f. place_of P.first f };
 
-    ghost did = { Did P.first };
+    ghost did = { IsOneStep P.first };
 
-    ghost came = { Came P.first };
+    ghost came = { AreSteps P.first };
 
     fn me(&self) -> u8 {
         self.sizes().0

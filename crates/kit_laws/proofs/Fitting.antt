@@ -19,7 +19,7 @@ use Rattle.kit_rules.proofs.Kept.{Kept, HasGroup}
 use Rattle.kit_base.specs.Order.{put}
 use Rattle.kit_rules.specs.Delivery.{is_due, due_messages}
 use Rattle.kit_rules.specs.Fits.{MessageFits, LineFits}
-use Rattle.kit_rules.specs.Simulation.{Seat, Block, World, next_grant, started, started_seat, seat_at, nobody_seated, granted_at, granted, granted_or_same, advanced, after_grants, simulated, block, block_lines, lines_of, is_spent, spender}
+use Rattle.kit_rules.specs.Simulation.{Seat, Block, World, next_grant, world_at_start, seat_at_start, seat_at, nobody_seated, seat_after_pair, world_after_grant, world_after_pair, next_world, after_grants, simulation, block, block_lines, lines_of, is_spent, spender}
 use Rattle.kit_laws.proofs.Numbers.{gained}
 use Rattle.kit_laws.proofs.Worlds.{grows_by_grant, grows_by_start}
 use Rattle.kit_laws.proofs.Rising.{Reached, grants, kept_by_grant, kept_by_start, started_reached, granted_reached}
@@ -60,10 +60,10 @@ lines_fit : (p : Parts) (bs : List Block) → AllByRecursion (BlockFits p) bs �
 lines_fit p [] h = tt
 lines_fit p (b ∷ bs) h = all-append (LineFits p) (block_lines b) (lines_of bs) (block_lines_fit p b h.0) (lines_fit p bs h.1)
 
-granted_fit : (p : Parts) (w : World) (g : ℕ × ℕ) → IsFederation p → g.1 < length w.seats → g.1 < length p.federates → Fit p w → Fit p (granted p w g)
+granted_fit : (p : Parts) (w : World) (g : ℕ × ℕ) → IsFederation p → g.1 < length w.seats → g.1 < length p.federates → Fit p w → Fit p (world_after_grant p w g)
 granted_fit p w g f within lt fit =
     let old = seat_at w g.1 in
-    let new = granted_at p w g in
+    let new = seat_after_pair p w g in
     let k = kept_by_grant p w g f lt in
     let due : AllByRecursion (MessageFits p) (due_messages p g.1 g.0 old.got w.messages) =
     all_in_order (MessageFits p) [] (filter (is_due p g.1 g.0 old.got w.messages) w.messages) tt (all_filter (MessageFits p) (is_due p g.1 g.0 old.got w.messages) w.messages fit.messages) in
@@ -80,25 +80,25 @@ granted_fit p w g f within lt fit =
           ];
     }
 
-started_fits : (p : Parts) (a n : ℕ) → IsFederation p → a + n ≤ length p.federates → AllByRecursion (MessageFits p) (flat_map (λ (s : Seat). s.state.sends) (map (started_seat p) (range_with_len a n)))
+started_fits : (p : Parts) (a n : ℕ) → IsFederation p → a + n ≤ length p.federates → AllByRecursion (MessageFits p) (flat_map (λ (s : Seat). s.state.sends) (map (seat_at_start p) (range_with_len a n)))
 started_fits p a zero f le = tt
 started_fits p a (suc n) f le =
     let lt : a < length p.federates = omega arith in
-    all-append (MessageFits p) (started_seat p a).state.sends _
-    (gained_fits p a 0 (opening_state (federate_at p a)) (started_seat p a).state lt (grows_by_start p a) (kept_by_start p a f lt) tt)
+    all-append (MessageFits p) (seat_at_start p a).state.sends _
+    (gained_fits p a 0 (opening_state (federate_at p a)) (seat_at_start p a).state lt (grows_by_start p a) (kept_by_start p a f lt) tt)
     (started_fits p (a + 1) n f (omega arith))
 
-started_fit : (p : Parts) → IsFederation p → Fit p (started p)
+started_fit : (p : Parts) → IsFederation p → Fit p (world_at_start p)
 started_fit p f = record {
   messages = started_fits p 0 (length p.federates) f (omega arith);
   blocks = tt;
   sends = λ k within.
-      let lt : k < length p.federates = omega (arith, length-map-range_with_len (started_seat p) 0 (length p.federates)) in
+      let lt : k < length p.federates = omega (arith, length-map-range_with_len (seat_at_start p) 0 (length p.federates)) in
       let P : Seat → Type 0 = λ s. AllByRecursion (HasGroup (length p.groups)) s.state.sends in
-      subst P (sym (get_or-map-range_with_len (started_seat p) 0 (length p.federates) k k nobody_seated lt (omega arith))) ((kept_by_start p k f lt).fits tt);
+      subst P (sym (get_or-map-range_with_len (seat_at_start p) 0 (length p.federates) k k nobody_seated lt (omega arith))) ((kept_by_start p k f lt).fits tt);
 }
 
-fit_once : (p : Parts) (last : ℕ × ℕ) (w : World) (o : Option (ℕ × ℕ)) → IsFederation p → Reached p last w → Fit p w → next_grant p w ≡ o → (l : ℕ × ℕ) × Reached p l (granted_or_same p w o) × Fit p (granted_or_same p w o)
+fit_once : (p : Parts) (last : ℕ × ℕ) (w : World) (o : Option (ℕ × ℕ)) → IsFederation p → Reached p last w → Fit p w → next_grant p w ≡ o → (l : ℕ × ℕ) × Reached p l (world_after_pair p w o) × Fit p (world_after_pair p w o)
 fit_once p last w None f r fit e = (last, r, fit)
 fit_once p last w (Some g) f r fit e =
     let gr = grants p last w g r e in
@@ -106,15 +106,15 @@ fit_once p last w (Some g) f r fit e =
 
 fit_after : (p : Parts) (last : ℕ × ℕ) (w : World) (n : ℕ) → IsFederation p → Reached p last w → Fit p w → (l : ℕ × ℕ) × Reached p l (after_grants p n w) × Fit p (after_grants p n w)
 fit_after p last w zero f r fit = (last, r, fit)
-fit_after p last w (suc n) f r fit = let o = fit_once p last w (next_grant p w) f r fit refl in fit_after p o.0 (advanced p w) n f o.1 o.2
+fit_after p last w (suc n) f r fit = let o = fit_once p last w (next_grant p w) f r fit refl in fit_after p o.0 (next_world p w) n f o.1 o.2
 
-pub simulated_fits : (p : Parts) → IsFederation p → All (LineFits p) (lines_of (simulated p).blocks)
+pub simulated_fits : (p : Parts) → IsFederation p → All (LineFits p) (lines_of (simulation p).blocks)
 simulated_fits p f =
-    let a = fit_after p (0, 0) (started p) (length p.federates * p.end) f (started_reached p f) (started_fit p f) in
-    All-from_recursion (LineFits p) (lines_of (simulated p).blocks) (lines_fit p (simulated p).blocks a.2.blocks)
+    let a = fit_after p (0, 0) (world_at_start p) (length p.federates * p.end) f (started_reached p f) (started_fit p f) in
+    All-from_recursion (LineFits p) (lines_of (simulation p).blocks) (lines_fit p (simulation p).blocks a.2.blocks)
 
-pub simulated_count : (p : Parts) → IsFederation p → length (simulated p).seats ≡ length p.federates
-simulated_count p f = (fit_after p (0, 0) (started p) (length p.federates * p.end) f (started_reached p f) (started_fit p f)).1.count
+pub simulated_count : (p : Parts) → IsFederation p → length (simulation p).seats ≡ length p.federates
+simulated_count p f = (fit_after p (0, 0) (world_at_start p) (length p.federates * p.end) f (started_reached p f) (started_fit p f)).1.count
 
 sender_within : (p : Parts) (o : Option Message) (i : ℕ) → IfSome o (MessageFits p) → option_map (λ (m : Message). m.sender) o ≡ Some i → i < length p.federates
 sender_within p None i h e = absurd (cc)
@@ -123,5 +123,5 @@ sender_within p (Some m) i h e = let same : m.sender ≡ i = cc in let fits : Me
 -- the federate that takes number 16,385 is there
 pub spender_within : (p : Parts) (i : ℕ) → IsFederation p → spender p ≡ Some i → i < length p.federates
 spender_within p i f e =
-    let a = fit_after p (0, 0) (started p) (length p.federates * p.end) f (started_reached p f) (started_fit p f) in
-    sender_within p (find is_spent (simulated p).messages) i (all_found (MessageFits p) is_spent (simulated p).messages a.2.messages) e
+    let a = fit_after p (0, 0) (world_at_start p) (length p.federates * p.end) f (started_reached p f) (started_fit p f) in
+    sender_within p (find is_spent (simulation p).messages) i (all_found (MessageFits p) is_spent (simulation p).messages a.2.messages) e

@@ -5,7 +5,7 @@ use Rattle.kit_base.specs.declared.message.Message.{Message}
 use Rattle.kit_rules.specs.Parts.{Parts}
 use Rattle.kit_rules.specs.declared.table.Trigger.TheVariants.{Got, Grant}
 use Rattle.kit_rules.specs.declared.scene.State.{State}
-use Rattle.kit_rules.specs.Step.{stepped}
+use Rattle.kit_rules.specs.Step.{state_after}
 use Rattle.kit_rules.proofs.Growth.{Grows, grows_none, grows_more, grows_by_step}
 use Rattle.kit_rules.specs.Simulation.{after_deliveries, after_block}
 
@@ -18,18 +18,18 @@ pub kept_longer : {X : Type 0} (a b : List X) → take (length a) b ≡ a → le
 kept_longer a b kept = omega (arith, length-take (length a) b, ap length kept)
 
 pub delivery_step : (p : Parts) (i d : ℕ) (s : State) (due : List Message) (k : ℕ) (x : Message) → k < length due
-    → after_deliveries p i d s (drop k due) ≡ after_deliveries p i d (stepped p i (Got (get_or due k x).group) d (get_or due k x).value s) (drop (k + 1) due)
+    → after_deliveries p i d s (drop k due) ≡ after_deliveries p i d (state_after p i (Got (get_or due k x).group) d (get_or due k x).value s) (drop (k + 1) due)
 delivery_step p i d s due k x h = rw (add-one, drop-cons due k x h) refl
 
 pub grows_by_deliveries : (p : Parts) (i d : ℕ) (s : State) (due : List Message) → Grows i s (after_deliveries p i d s due)
 grows_by_deliveries p i d s [] = grows_none i s
-grows_by_deliveries p i d s (m ∷ ms) = grows_more i _ _ _ (grows_by_step p i (Got m.group) d m.value s) (grows_by_deliveries p i d (stepped p i (Got m.group) d m.value s) ms)
+grows_by_deliveries p i d s (m ∷ ms) = grows_more i _ _ _ (grows_by_step p i (Got m.group) d m.value s) (grows_by_deliveries p i d (state_after p i (Got m.group) d m.value s) ms)
 
 -- where one delivery goes past a number, so do all from there on
 pub past_from_delivery : (p : Parts) (i d : ℕ) (s : State) (due : List Message) (k n : ℕ) (x : Message) → k < length due
-    → n < (stepped p i (Got (get_or due k x).group) d (get_or due k x).value s).next → n < (after_deliveries p i d s (drop k due)).next
+    → n < (state_after p i (Got (get_or due k x).group) d (get_or due k x).value s).next → n < (after_deliveries p i d s (drop k due)).next
 past_from_delivery p i d s due k n x h past =
-    rw (delivery_step p i d s due k x h) (omega (arith, past, (grows_by_deliveries p i d (stepped p i (Got (get_or due k x).group) d (get_or due k x).value s) (drop (k + 1) due)).next))
+    rw (delivery_step p i d s due k x h) (omega (arith, past, (grows_by_deliveries p i d (state_after p i (Got (get_or due k x).group) d (get_or due k x).value s) (drop (k + 1) due)).next))
 
 pub grows_longer : (i : ℕ) (a b : State) → Grows i a b → length a.sends ≤ length b.sends
 grows_longer i a b g = omega (arith, ap length g.sends, length-append a.sends g.made)

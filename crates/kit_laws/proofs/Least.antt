@@ -5,7 +5,7 @@ use Rattle.std.proofs.lemmas.Bool.{lt-ltb, le-ltb, cases_lt}
 use Rattle.std.proofs.lemmas.Bool.Decides.{eqb_tells}
 use Rattle.kit_base.specs.declared.message.Message.{Message}
 use Rattle.kit_rules.specs.Parts.{Parts}
-use Rattle.kit_rules.specs.Simulation.{Seat, seat_due, waiting_from, is_sooner, sooner, least, nobody_seated}
+use Rattle.kit_rules.specs.Simulation.{Seat, seat_due, waiting_from, is_sooner, sooner_pair, least_pair, nobody_seated}
 
 ltb_tells : (a b : ℕ) → ((nat_lt a b ≡ true) × (a < b)) ⊎ ((nat_lt a b ≡ false) × (b ≤ a))
 ltb_tells a b = elim (cases_lt a b) [ inl lt ↦ inl (lt-ltb a b lt, lt) | inr ge ↦ inr (le-ltb a b ge, ge) ]
@@ -30,11 +30,11 @@ sooner_rank b a hb ha =
 abbrev pub Few : ℕ × ℕ → Type 0
 Few g = g.1 < 16
 
-sooner_few : (best : Option (ℕ × ℕ)) (x : ℕ × ℕ) → IfSome best Few → Few x → Few (sooner best x)
+sooner_few : (best : Option (ℕ × ℕ)) (x : ℕ × ℕ) → IfSome best Few → Few x → Few (sooner_pair best x)
 sooner_few None x b h = h
 sooner_few (Some a) x b h = elim (is_sooner x a) as (λ t. Few (cond t x a)) [ true ↦ h | false ↦ b ]
 
-sooner_least : (best : Option (ℕ × ℕ)) (x : ℕ × ℕ) → IfSome best Few → Few x → (Rank (sooner best x) ≤ Rank x) × IfSome best (λ a. Rank (sooner best x) ≤ Rank a)
+sooner_least : (best : Option (ℕ × ℕ)) (x : ℕ × ℕ) → IfSome best Few → Few x → (Rank (sooner_pair best x) ≤ Rank x) × IfSome best (λ a. Rank (sooner_pair best x) ≤ Rank a)
 sooner_least None x b h = (omega arith, tt)
 sooner_least (Some a) x b h =
     let fa : a.1 < 16 = b in
@@ -44,24 +44,24 @@ sooner_least (Some a) x b h =
     ]
 
 -- nothing comes before the least
-least_below : (best : Option (ℕ × ℕ)) (xs : List (ℕ × ℕ)) (g : ℕ × ℕ) → IfSome best Few → AllByRecursion Few xs → least best xs ≡ Some g
+least_below : (best : Option (ℕ × ℕ)) (xs : List (ℕ × ℕ)) (g : ℕ × ℕ) → IfSome best Few → AllByRecursion Few xs → least_pair best xs ≡ Some g
     → IfSome best (λ a. Rank g ≤ Rank a) × AllByRecursion (λ x. Rank g ≤ Rank x) xs
 least_below best [] g b h e = (let P : Option (ℕ × ℕ) → Type 0 = λ o. IfSome o (λ a. Rank g ≤ Rank a) in let le : Rank g ≤ Rank g = omega arith in subst P (sym e) le, tt)
 least_below best (x ∷ xs) g b h e =
-    let rest = least_below (Some (sooner best x)) xs g (sooner_few best x b h.0) h.1 e in
-    let here : Rank g ≤ Rank (sooner best x) = rest.0 in
+    let rest = least_below (Some (sooner_pair best x)) xs g (sooner_few best x b h.0) h.1 e in
+    let here : Rank g ≤ Rank (sooner_pair best x) = rest.0 in
     let s = sooner_least best x b h.0 in
-    (weaker best s.1 here, ((let le : Rank (sooner best x) ≤ Rank x = s.0 in omega arith), rest.1))
+    (weaker best s.1 here, ((let le : Rank (sooner_pair best x) ≤ Rank x = s.0 in omega arith), rest.1))
   where
     weaker : {n m : ℕ} (o : Option (ℕ × ℕ)) → IfSome o (λ a. m ≤ Rank a) → n ≤ m → IfSome o (λ a. n ≤ Rank a)
     weaker None h le = tt
     weaker {n} {m} (Some a) h le = let l : m ≤ Rank a = h in let k : n ≤ Rank a = omega arith in k
 
-pub least_keeps : (P : ℕ × ℕ → Type 0) (best : Option (ℕ × ℕ)) (xs : List (ℕ × ℕ)) → IfSome best P → AllByRecursion P xs → IfSome (least best xs) P
+pub least_keeps : (P : ℕ × ℕ → Type 0) (best : Option (ℕ × ℕ)) (xs : List (ℕ × ℕ)) → IfSome best P → AllByRecursion P xs → IfSome (least_pair best xs) P
 least_keeps P best [] b h = b
-least_keeps P best (x ∷ xs) b h = least_keeps P (Some (sooner best x)) xs (kept P best x b h.0) h.1
+least_keeps P best (x ∷ xs) b h = least_keeps P (Some (sooner_pair best x)) xs (kept P best x b h.0) h.1
   where
-    kept : (P : ℕ × ℕ → Type 0) (best : Option (ℕ × ℕ)) (x : ℕ × ℕ) → IfSome best P → P x → P (sooner best x)
+    kept : (P : ℕ × ℕ → Type 0) (best : Option (ℕ × ℕ)) (x : ℕ × ℕ) → IfSome best P → P x → P (sooner_pair best x)
     kept P None x b h = h
     kept P (Some a) x b h = elim (is_sooner x a) as (λ t. P (cond t x a)) [ true ↦ h | false ↦ b ]
 
@@ -101,7 +101,7 @@ waiting_covers P p sent i (s ∷ ss) h (suc k) lt below =
     subst Q (let e : (i + 1) + k ≡ i + suc k = omega arith in e) (waiting_covers P p sent (i + 1) ss rest k (omega arith) below)
 
 -- the next grant is of a federate below the end, at its due time
-pub next_stands : (p : Parts) (sent : List Message) (seats : List Seat) (g : ℕ × ℕ) → least None (waiting_from p sent 0 seats) ≡ Some g → Stands p sent seats g
+pub next_stands : (p : Parts) (sent : List Message) (seats : List Seat) (g : ℕ × ℕ) → least_pair None (waiting_from p sent 0 seats) ≡ Some g → Stands p sent seats g
 next_stands p sent seats g e =
     let P : Option (ℕ × ℕ) → Type 0 = λ o. IfSome o (Stands p sent seats) in
     subst P e (least_keeps (Stands p sent seats) None (waiting_from p sent 0 seats) tt (waiting_stands p sent seats 0 seats refl))
@@ -111,7 +111,7 @@ stands_few p sent seats [] le h = tt
 stands_few p sent seats (x ∷ xs) le h = (omega (arith, h.0.within), stands_few p sent seats xs le h.1)
 
 -- and no other comes before it
-pub next_least : (p : Parts) (sent : List Message) (seats : List Seat) (g : ℕ × ℕ) → length seats ≤ 16 → least None (waiting_from p sent 0 seats) ≡ Some g
+pub next_least : (p : Parts) (sent : List Message) (seats : List Seat) (g : ℕ × ℕ) → length seats ≤ 16 → least_pair None (waiting_from p sent 0 seats) ≡ Some g
     → (k : ℕ) → k < length seats → (get_or seats k nobody_seated).now < p.end → Rank g ≤ Rank (seat_due p sent k (get_or seats k nobody_seated), k)
 next_least p sent seats g few e k lt below =
     let all = (least_below None (waiting_from p sent 0 seats) g tt (stands_few p sent seats (waiting_from p sent 0 seats) few (waiting_stands p sent seats 0 seats refl)) e).1 in

@@ -4,7 +4,7 @@ use Rattle.std.specs.List.{AllByRecursion}
 use Rattle.std.proofs.lemmas.List.{get_or_default}
 use Rattle.kit_rules.specs.Parts.{Parts}
 use Rattle.kit_rules.specs.Federation.{IsFederation}
-use Rattle.kit_rules.specs.Simulation.{Seat, World, seat_at, seat_due, nobody_seated, waiting_from, next_grant, started, granted, granted_or_same, advanced, after_grants, simulated}
+use Rattle.kit_rules.specs.Simulation.{Seat, World, seat_at, seat_due, nobody_seated, waiting_from, next_grant, world_at_start, world_after_grant, world_after_pair, next_world, after_grants, simulation}
 use Rattle.kit_laws.specs.Laws.{GrantsRise, LastGrants, Waits, IsNext, Runs, done, more, OneSimulation}
 use Rattle.kit_laws.proofs.Least.{Rank, next_stands, next_least, sooner_rank, waiting_covers}
 use Rattle.kit_laws.proofs.Worlds.{after_none}
@@ -12,15 +12,15 @@ use Rattle.kit_laws.proofs.Rising.{Reached, reached_after, started_reached, gran
 
 pub grants_rise_law : GrantsRise
 grants_rise_law p f n g h e k =
-    let r = reached_after p (0, 0) (started p) n f (started_reached p f) in
-    let w = after_grants p n (started p) in
-    let step : after_grants p (n + 1) (started p) ≡ granted p w g = ap (λ m. after_grants p m (started p)) (add-one n) ∙ after_suc p n (started p) ∙ ap (granted_or_same p w) e in
+    let r = reached_after p (0, 0) (world_at_start p) n f (started_reached p f) in
+    let w = after_grants p n (world_at_start p) in
+    let step : after_grants p (n + 1) (world_at_start p) ≡ world_after_grant p w g = ap (λ m. after_grants p m (world_at_start p)) (add-one n) ∙ after_suc p n (world_at_start p) ∙ ap (world_after_pair p w) e in
     rises_next p r.0 w g h f r.1 e (sym (ap (next_grant p) step) ∙ k)
 
 pub last_grants_law : LastGrants
 last_grants_law p f k d lt =
     let P : Seat → Type 0 = λ s. s.now ≡ p.end in
-    subst P (get_or_default (simulated p).seats k nobody_seated d lt) (last_grants p f k lt)
+    subst P (get_or_default (simulation p).seats k nobody_seated d lt) (last_grants p f k lt)
 
 few_seats : (p : Parts) (l : ℕ × ℕ) (w : World) → IsFederation p → Reached p l w → length w.seats ≤ 16
 few_seats p l w f r = omega (arith, r.count, f.federates.count.1)
@@ -60,9 +60,9 @@ same_next p l w g h f r a b =
 
 -- the function's grants are a run
 runs_once : (p : Parts) (l : ℕ × ℕ) (w : World) (n : ℕ) → IsFederation p → Reached p l w → ((k : ℕ × ℕ) (v : World) → Reached p k v → Runs p v (after_grants p n v))
-    → (o : Option (ℕ × ℕ)) → next_grant p w ≡ o → Runs p w (after_grants p n (granted_or_same p w o))
+    → (o : Option (ℕ × ℕ)) → next_grant p w ≡ o → Runs p w (after_grants p n (world_after_pair p w o))
 runs_once p l w n f r rest None e = rest l w r
-runs_once p l w n f r rest (Some g) e = more w g (after_grants p n (granted p w g)) (next_is_next p l w g f r e) (rest g (granted p w g) (granted_reached p l w g f r e))
+runs_once p l w n f r rest (Some g) e = more w g (after_grants p n (world_after_grant p w g)) (next_is_next p l w g f r e) (rest g (world_after_grant p w g) (granted_reached p l w g f r e))
 
 runs_on : (p : Parts) (n : ℕ) (l : ℕ × ℕ) (w : World) → IsFederation p → Reached p l w → Runs p w (after_grants p n w)
 runs_on p zero l w f r = done w
@@ -83,23 +83,23 @@ run_is p l f r (done w) = (0, refl)
 run_is p l f r (more w g v next rest) =
     let e : next_grant p w ≡ Some g = is_the_next p l w g f r next (next_grant p w) refl in
     let k = run_is p g f (granted_reached p l w g f r e) rest in
-    (suc k.0, ap (λ o. after_grants p k.0 (granted_or_same p w o)) e ∙ k.1)
+    (suc k.0, ap (λ o. after_grants p k.0 (world_after_pair p w o)) e ∙ k.1)
 
 -- two that are over are one
 same_end : (p : Parts) (n m : ℕ) (w : World) → next_grant p (after_grants p n w) ≡ None → next_grant p (after_grants p m w) ≡ None → after_grants p n w ≡ after_grants p m w
 same_end p zero m w a b = sym (after_none p m w a)
 same_end p (suc n) zero w a b = after_none p (suc n) w b
-same_end p (suc n) (suc m) w a b = same_end p n m (advanced p w) a b
+same_end p (suc n) (suc m) w a b = same_end p n m (next_world p w) a b
 
 pub one_simulation_law : OneSimulation
 one_simulation_law p f =
     let start = started_reached p f in
     let n = length p.federates * p.end in
-    let end = (reached_after p (0, 0) (started p) n f start) in (
-      record { run = runs_on p n (0, 0) (started p) f start; over = none_is_over p end.0 (simulated p) (simulated_done p f) },
+    let end = (reached_after p (0, 0) (world_at_start p) n f start) in (
+      record { run = runs_on p n (0, 0) (world_at_start p) f start; over = none_is_over p end.0 (simulation p) (simulated_done p f) },
       λ v sim.
           let k = run_is p (0, 0) f start sim.run in
           let none : next_grant p v ≡ None = over_is_none p v sim.over (next_grant p v) refl in
           let Q : World → Type 0 = λ w. next_grant p w ≡ None in
-          sym k.1 ∙ same_end p k.0 n (started p) (subst Q (sym k.1) none) (simulated_done p f),
+          sym k.1 ∙ same_end p k.0 n (world_at_start p) (subst Q (sym k.1) none) (simulated_done p f),
     )

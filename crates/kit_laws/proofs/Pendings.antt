@@ -14,7 +14,7 @@ use Rattle.kit_rules.specs.Parts.{Parts}
 use Rattle.kit_rules.specs.Step.{is_event}
 use Rattle.kit_rules.proofs.Kept.{Later}
 use Rattle.kit_base.specs.Order.{is_before, put}
-use Rattle.kit_rules.specs.Delivery.{is_pending, pending, is_transported, has_bit, receivers_of, is_same, retracts, is_due, due_messages, due_time}
+use Rattle.kit_rules.specs.Delivery.{is_pending, pending_messages, is_transported, has_bit, receivers_of, is_same, retracts, is_due, due_messages, due_time}
 use Rattle.kit_laws.specs.Sane.{time_of}
 
 pub any_left : {X : Type 0} (p : X → Bool) (xs ys : List X) → list_any p (xs ++ ys) ≡ false → list_any p xs ≡ false
@@ -75,7 +75,7 @@ abbrev pub From : ℕ → Message → Type 0
 From b m = b ≤ m.time
 
 -- What is pending after more was sent is timed b or more, where what was pending and what was sent is.
-pub pending_from : (p : Parts) (i b d : ℕ) (got sent made : List Message) → b ≤ d + 1 → AllByRecursion (From b) (pending p i got sent) → AllByRecursion (Later d) made → AllByRecursion (From b) (pending p i got (sent ++ made))
+pub pending_from : (p : Parts) (i b d : ℕ) (got sent made : List Message) → b ≤ d + 1 → AllByRecursion (From b) (pending_messages p i got sent) → AllByRecursion (Later d) made → AllByRecursion (From b) (pending_messages p i got (sent ++ made))
 pending_from p i b d got sent made le old new =
     let q = is_pending p i got (sent ++ made) in
     let front : AllByRecursion (From b) (filter q sent) =
@@ -108,10 +108,10 @@ due_capped (request.Tar t) ms = omega arith
 due_capped (request.Ner t) ms = earliest_low t ms
 
 -- a request that was due at b or later is so after more was sent later than d
-pub due_stays : (p : Parts) (i b d : ℕ) (r : Request) (got sent made : List Message) → b ≤ d + 1 → b ≤ due_time r (pending p i got sent) → AllByRecursion (Later d) made → b ≤ due_time r (pending p i got (sent ++ made))
+pub due_stays : (p : Parts) (i b d : ℕ) (r : Request) (got sent made : List Message) → b ≤ d + 1 → b ≤ due_time r (pending_messages p i got sent) → AllByRecursion (Later d) made → b ≤ due_time r (pending_messages p i got (sent ++ made))
 due_stays p i b d (request.Tar t) got sent made le h new = h
 due_stays p i b d (request.Ner t) got sent made le h new =
-    earliest_from b t (pending p i got (sent ++ made)) (omega (arith, h, earliest_low t (pending p i got sent))) (pending_from p i b d got sent made le (earliest_each b t (pending p i got sent) h) new)
+    earliest_from b t (pending_messages p i got (sent ++ made)) (omega (arith, h, earliest_low t (pending_messages p i got sent))) (pending_from p i b d got sent made le (earliest_each b t (pending_messages p i got sent) h) new)
 
 -- what is put in order is kept
 any_put : (p : Message → Bool) (m : Message) (xs : List Message) → list_any p (put m xs) ≡ (p m || list_any p xs)
@@ -170,7 +170,7 @@ gone_each p i d got sent made (x ∷ xs) given =
     )
 
 -- after a grant of d nothing pending is timed d or less
-pub gone : (p : Parts) (i d : ℕ) (got sent made : List Message) → AllByRecursion (Later d) made → AllByRecursion (From (d + 1)) (pending p i (got ++ due_messages p i d got sent) (sent ++ made))
+pub gone : (p : Parts) (i d : ℕ) (got sent made : List Message) → AllByRecursion (Later d) made → AllByRecursion (From (d + 1)) (pending_messages p i (got ++ due_messages p i d got sent) (sent ++ made))
 gone p i d got sent made new =
     let q = is_pending p i (got ++ due_messages p i d got sent) (sent ++ made) in
     let front : AllByRecursion (From (d + 1)) (filter q sent) =

@@ -16,8 +16,8 @@ use Rattle.kit_rules.specs.declared.table.Trigger.TheVariants.{Start}
 use Rattle.kit_rules.specs.declared.scene.State.{State}
 use Rattle.kit_rules.specs.Delivery.{due_time}
 use Rattle.kit_rules.specs.Parts.{Parts, federate_at}
-use Rattle.kit_rules.specs.Simulation.{Block, block, block_lines, lines_of, request_at, started_seat}
-use Rattle.kit_rules.specs.Step.{opening_state, stepped}
+use Rattle.kit_rules.specs.Simulation.{Block, block, block_lines, lines_of, request_at, seat_at_start}
+use Rattle.kit_rules.specs.Step.{opening_state, state_after}
 use Rattle.kit_lbts.specs.declared.view.LbtsView.{LbtsView}
 use Rattle.kit_lbts.specs.Views.{delivery_of, is_new}
 use Rattle.kit_lbts.specs.Progress.{started}
@@ -147,8 +147,8 @@ starts_agree j v none empty h = record {
   seat = λ r e.
       let f : Parts = v.federation in
       let no_blocks : blocks_in j v ≡ [] = ap (blocks_from j []) empty in
-      let state : started_seat f j ≡ record { now = 0; request = request_at (started j v).state.wish 0 f.end; state = (started j v).state; got = [] } =
-      ap (λ (s : State). record { now = 0; request = request_at (stepped f j Start 0 0 s).wish 0 f.end; state = stepped f j Start 0 0 s; got = [] }) (sym (h.new none)) in
+      let state : seat_at_start f j ≡ record { now = 0; request = request_at (started j v).state.wish 0 f.end; state = (started j v).state; got = [] } =
+      ap (λ (s : State). record { now = 0; request = request_at (state_after f j Start 0 0 s).wish 0 f.end; state = state_after f j Start 0 0 s; got = [] }) (sym (h.new none)) in
       ap (seat_after f j) no_blocks ∙ state
       ∙ (λ k. record { now = sym (ap now_of empty) k; request = some_started e k; state = (started j v).state; got = sym (ap (filter_map delivery_of) empty) k });
 }

@@ -6,7 +6,7 @@ use Rattle.kit_ground.specs.declared.place.Deed.TheVariants.{Looked, Published, 
 use Rattle.kit_ground.specs.declared.place.Place.{Place}
 use Rattle.kit_model.specs.Shares.{share_of}
 use Rattle.kit_queue.specs.declared.entry.Entry.{Entry}
-use Rattle.kit_queue.specs.Entries.{messages_of, settled}
+use Rattle.kit_queue.specs.Entries.{messages_of, without_buffer}
 use Rattle.kit_rounds.specs.Ledgers.{Ledger}
 use Rattle.kit_lbts.specs.declared.view.LbtsView.{LbtsView}
 use Rattle.kit_lbts.specs.Views.{is_spent, due_by, time_of, is_waiting}
@@ -17,12 +17,12 @@ use Rattle.kit_lbts.specs.Progress.{is_under_way, own_share, closed, shows_next,
 use Rattle.kit_lbts.specs.LedgerLaws.{AsidesLeaveLedgers}
 
 -- to give up a buffer leaves the messages
-same_messages : (i k : ℕ) (es : List Entry) → messages_of (map (λ e. cond (waits_in i k e) (settled e) e) es) ≡ messages_of es
+same_messages : (i k : ℕ) (es : List Entry) → messages_of (map (λ e. cond (waits_in i k e) (without_buffer e) e) es) ≡ messages_of es
 same_messages i k [] = refl
 same_messages i k (e ∷ es) = step (waits_in i k e) (same_messages i k es)
   where
-    step : (b : Bool) → messages_of (map (λ e. cond (waits_in i k e) (settled e) e) es) ≡ messages_of es
-        → (cond b (settled e) e).message ∷ messages_of (map (λ e. cond (waits_in i k e) (settled e) e) es) ≡ e.message ∷ messages_of es
+    step : (b : Bool) → messages_of (map (λ e. cond (waits_in i k e) (without_buffer e) e) es) ≡ messages_of es
+        → (cond b (without_buffer e) e).message ∷ messages_of (map (λ e. cond (waits_in i k e) (without_buffer e) e) es) ≡ e.message ∷ messages_of es
     step true rest = ap (λ ms. e.message ∷ ms) rest
     step false rest = ap (λ ms. e.message ∷ ms) rest
 
@@ -48,7 +48,7 @@ look_leaves p r word = step (is_under_way p.client && shows_next (next_source p.
 release_leaves : (p : Place LbtsView) (i k : ℕ) → with_view p (put_down i k p.client) ≡ ledger_of p
 release_leaves p i k = step (list_any (is_spent i k) p.client.spent)
   where
-    step : (b : Bool) → with_view p (cond b (record p.client { spent = filter (λ s. not (is_spent i k s)) p.client.spent }) (record p.client { queue = map (λ e. cond (waits_in i k e) (settled e) e) p.client.queue })) ≡ ledger_of p
+    step : (b : Bool) → with_view p (cond b (record p.client { spent = filter (λ s. not (is_spent i k s)) p.client.spent }) (record p.client { queue = map (λ e. cond (waits_in i k e) (without_buffer e) e) p.client.queue })) ≡ ledger_of p
     step true = refl
     step false =
         ap (λ ms. record (ledger_of p) { promise = promised p.client.federation.end (added_of p) (time_of p.client) (due_by p.client.request ms) (is_waiting p.client) })

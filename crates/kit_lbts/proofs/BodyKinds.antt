@@ -15,15 +15,15 @@ use Rattle.kit_base.specs.Order.{in_order, put}
 use Rattle.kit_ground.specs.declared.address.Address.TheVariants.{Part}
 use Rattle.kit_ground.specs.declared.place.Deed.TheVariants.{ReadPart}
 use Rattle.kit_ground.specs.declared.place.Place.{Place}
-use Rattle.kit_ground.specs.Memory.{Memory, stored}
-use Rattle.kit_ground.specs.Rules.{Kept, World}
-use Rattle.kit_ground.specs.Steps.{acted}
+use Rattle.kit_ground.specs.Memory.{Memory, with_word}
+use Rattle.kit_ground.specs.Rules.{RuleStays, World}
+use Rattle.kit_ground.specs.Steps.{place_after}
 use Rattle.kit_laws.proofs.Pendings as pendings
 use Rattle.kit_queue.specs.declared.entry.Entry.{Entry}
-use Rattle.kit_queue.specs.Entries.{entry_of, is_numbered, messages_of, put_entry, without}
+use Rattle.kit_queue.specs.Entries.{entry_of, is_numbered, messages_of, put_entry, entries_without}
 use Rattle.kit_queue.proofs.Waiting.{apart_put, apart_without, in_order_put, in_order_without}
 use Rattle.kit_rules.specs.Parts.{Parts}
-use Rattle.kit_rules.specs.Delivery.{is_pending, is_same, is_transported, pending, retracts}
+use Rattle.kit_rules.specs.Delivery.{is_pending, is_same, is_transported, pending_messages, retracts}
 use Rattle.kit_rules.specs.Step.{is_event, no_message}
 use Rattle.kit_lbts.specs.declared.view.Filled.{Filled}
 use Rattle.kit_lbts.specs.declared.view.Orphan.{Orphan}
@@ -88,8 +88,8 @@ module _ (p : P) (i k head : ℕ) (li : i < p.own.federates) (lk : k < p.own.buf
   new = arriving.new_number p i k head li lk has_head m places w
 
   -- ---- what is in the queue is pending
-  queue_any : (t : Message → Bool) → list_any t (messages_of p.client.queue) ≡ list_any t (pending f me (delivered p.client) (received p.client))
-  queue_any t = ap (list_any t) rule.queue.is ∙ any_ordered t (pending f me (delivered p.client) (received p.client))
+  queue_any : (t : Message → Bool) → list_any t (messages_of p.client.queue) ≡ list_any t (pending_messages f me (delivered p.client) (received p.client))
+  queue_any t = ap (list_any t) rule.queue.is ∙ any_ordered t (pending_messages f me (delivered p.client) (received p.client))
 
   pub entry_clear : entry_of i message.number p.client.queue ≡ None
   entry_clear = none_is (entry_of i message.number p.client.queue) (entry_any i message.number p.client.queue
@@ -162,8 +162,8 @@ module _ (p : P) (i k head : ℕ) (li : i < p.own.federates) (lk : k < p.own.buf
           apart = apart_put e p.client.queue entry_new rule.queue.apart;
           pend = messages_put e p.client.queue
               ∙ (ap (put message) rule.queue.is
-              ∙ (sym (in_order_push (pending f me (delivered p.client) (received p.client)) message)
-              ∙ ap in_order (sym (pending_event f me (delivered p.client) (received p.client) message event ∙ ap (λ (b : Bool). pending f me (delivered p.client) (received p.client) ++ cond b (message ∷ []) []) pends))));
+              ∙ (sym (in_order_push (pending_messages f me (delivered p.client) (received p.client)) message)
+              ∙ ap in_order (sym (pending_event f me (delivered p.client) (received p.client) message event ∙ ap (λ (b : Bool). pending_messages f me (delivered p.client) (received p.client) ++ cond b (message ∷ []) []) pends))));
           ahead = all_put_entry (λ (e : Entry). time_of p.client < e.message.time) e p.client.queue late rule.queue.ahead;
           settled = all_put_entry (λ (e : Entry). e.buffer ≡ None → e.message.time < bound_of p.client) e p.client.queue (λ x. absurd (cc)) rule.queue.settled;
           lies = λ a v same h. all_put_entry (Lie a v) e p.client.queue (λ x. same (sym x ∙ from)) h;
@@ -193,7 +193,7 @@ module _ (p : P) (i k head : ℕ) (li : i < p.own.federates) (lk : k < p.own.buf
           ordered = rule.queue.ordered;
           apart = rule.queue.apart;
           pend = rule.queue.is ∙ ap in_order (sym (pending_event f me (delivered p.client) (received p.client) message event
-              ∙ (ap (λ (b : Bool). pending f me (delivered p.client) (received p.client) ++ cond b (message ∷ []) []) gone ∙ append-nil (pending f me (delivered p.client) (received p.client)))));
+              ∙ (ap (λ (b : Bool). pending_messages f me (delivered p.client) (received p.client) ++ cond b (message ∷ []) []) gone ∙ append-nil (pending_messages f me (delivered p.client) (received p.client)))));
           ahead = rule.queue.ahead;
           settled = rule.queue.settled;
           lies = λ a v same h. h;
@@ -281,11 +281,11 @@ module _ (p : P) (i k head : ℕ) (li : i < p.own.federates) (lk : k < p.own.buf
         let t = any_there (is_event_of i value) (received p.client) any in
         let pends = filter_contains (is_pending f me (delivered p.client) (received p.client)) (received p.client) t.0 (target_waits t.0 t.1 t.2) t.1 in
         let numbered = (and_parts (is_event t.0.kind) (is_numbered i value t.0) t.2).1 in
-        true≢false (sym (entry_any i value p.client.queue ∙ (queue_any (is_numbered i value) ∙ any_at (is_numbered i value) (pending f me (delivered p.client) (received p.client)) t.0 pends numbered)) ∙ none))
+        true≢false (sym (entry_any i value p.client.queue ∙ (queue_any (is_numbered i value) ∙ any_at (is_numbered i value) (pending_messages f me (delivered p.client) (received p.client)) t.0 pends numbered)) ∙ none))
 
     target_came : is_some (entry_of i value p.client.queue) ≡ true → list_any (is_event_of i value) (received p.client) ≡ true
     target_came there =
-        let t = any_there (is_numbered i value) (pending f me (delivered p.client) (received p.client)) (sym (entry_any i value p.client.queue ∙ queue_any (is_numbered i value)) ∙ there) in
+        let t = any_there (is_numbered i value) (pending_messages f me (delivered p.client) (received p.client)) (sym (entry_any i value p.client.queue ∙ queue_any (is_numbered i value)) ∙ there) in
         let u = contains_filter (is_pending f me (delivered p.client) (received p.client)) (received p.client) t.0 t.1 in
         any_at (is_event_of i value) (received p.client) t.0 u.1 (and_from (is_event t.0.kind) (is_numbered i value t.0) (pendings.pending_event f me (delivered p.client) (received p.client) t.0 u.0) t.2)
 
@@ -343,7 +343,7 @@ module _ (p : P) (i k head : ℕ) (li : i < p.own.federates) (lk : k < p.own.buf
     retracts_is : (x : Message) → not (is_numbered i value x) ≡ not (retracts x message)
     retracts_is x = ap not ((λ t. nat_eq_equiv.symm x.sender i t && nat_eq_equiv.symm x.number value t) ∙ (λ t. not (sym no_event t) && sym from t == x.sender && value == x.number))
 
-    taken_back : Becomes (without i message.value p.client.queue) left (cond (is_some (entry_of i message.value p.client.queue)) p.client.orphans (p.client.orphans ++ orphan i message.value ∷ []))
+    taken_back : Becomes (entries_without i message.value p.client.queue) left (cond (is_some (entry_of i message.value p.client.queue)) p.client.orphans (p.client.orphans ++ orphan i message.value ∷ []))
     taken_back = record {
       is = ap (λ (c : Kind). taken_in c i k message start) kind;
       here =
@@ -363,8 +363,8 @@ module _ (p : P) (i k head : ℕ) (li : i < p.own.federates) (lk : k < p.own.buf
       apart = apart_without i value p.client.queue rule.queue.apart;
       pend = messages_sieved (λ x. not (is_numbered i value x)) p.client.queue
           ∙ (ap (filter (λ x. not (is_numbered i value x))) rule.queue.is
-          ∙ (sym (in_order_filter (λ x. not (is_numbered i value x)) (pending f me (delivered p.client) (received p.client)))
-          ∙ ap in_order (filter_agree (λ x. not (is_numbered i value x)) (λ x. not (retracts x message)) retracts_is (pending f me (delivered p.client) (received p.client))
+          ∙ (sym (in_order_filter (λ x. not (is_numbered i value x)) (pending_messages f me (delivered p.client) (received p.client)))
+          ∙ ap in_order (filter_agree (λ x. not (is_numbered i value x)) (λ x. not (retracts x message)) retracts_is (pending_messages f me (delivered p.client) (received p.client))
           ∙ sym (pending_retraction f me (delivered p.client) (received p.client) message no_event))));
       ahead = All-filter (λ e. not (is_numbered i value e.message)) (λ (e : Entry). time_of p.client < e.message.time) p.client.queue rule.queue.ahead;
       settled = All-filter (λ e. not (is_numbered i value e.message)) (λ (e : Entry). e.buffer ≡ None → e.message.time < bound_of p.client) p.client.queue rule.queue.settled;
@@ -372,10 +372,10 @@ module _ (p : P) (i k head : ℕ) (li : i < p.own.federates) (lk : k < p.own.buf
       orphans = λ a n. orphans_by (is_some (entry_of i value p.client.queue)) refl a n;
     }
 
-  pub whole : Kept lbts_rule m places (stored m (Part i k 1) (m (Part i k 1))) (slice_set places p.own.number (acted progressed (ReadPart i k 1 (m (Part i k 1))) p))
+  pub whole : RuleStays lbts_rule m places (with_word m (Part i k 1) (m (Part i k 1))) (slice_set places p.own.number (place_after progressed (ReadPart i k 1 (m (Part i k 1))) p))
   whole = by message.kind refl
     where
-      by : (c : Kind) → message.kind ≡ c → Kept lbts_rule m places (stored m (Part i k 1) (m (Part i k 1))) (slice_set places p.own.number (acted progressed (ReadPart i k 1 (m (Part i k 1))) p))
+      by : (c : Kind) → message.kind ≡ c → RuleStays lbts_rule m places (with_word m (Part i k 1) (m (Part i k 1))) (slice_set places p.own.number (place_after progressed (ReadPart i k 1 (m (Part i k 1))) p))
       by Event is = ⊎_elim
           (λ (e : list_any (is_orphan i message.number) p.client.orphans ≡ true). receive p i k head li lk has_head m places w _ _ _ (forgotten is e))
           (λ (e : list_any (is_orphan i message.number) p.client.orphans ≡ false). receive p i k head li lk has_head m places w _ _ _ (waits is e))

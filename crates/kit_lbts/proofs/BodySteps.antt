@@ -17,9 +17,9 @@ use Rattle.kit_ground.specs.declared.address.Address.TheVariants.{Part}
 use Rattle.kit_ground.specs.declared.place.Deed.{Deed}
 use Rattle.kit_ground.specs.declared.place.Deed.TheVariants.{ReadPart}
 use Rattle.kit_ground.specs.declared.place.Place.{Place}
-use Rattle.kit_ground.specs.Memory.{Memory, stored}
-use Rattle.kit_ground.specs.Rules.{Kept, World}
-use Rattle.kit_ground.specs.Steps.{acted, own_after}
+use Rattle.kit_ground.specs.Memory.{Memory, with_word}
+use Rattle.kit_ground.specs.Rules.{RuleStays, World}
+use Rattle.kit_ground.specs.Steps.{place_after, own_after}
 use Rattle.kit_ground.proofs.Memories.{stored_same}
 use Rattle.kit_model.specs.declared.journal.JournalEntry.TheVariants.{Received}
 use Rattle.kit_model.specs.Journals.{IsLawful, last_grant, now_of}
@@ -27,7 +27,7 @@ use Rattle.kit_model.proofs.Lawful.{last_grant-push, others_keep_the_time, recei
 use Rattle.kit_queue.specs.declared.entry.Entry.{Entry}
 use Rattle.kit_queue.specs.Entries.{AreNumberedApart, IsInOrder, messages_of}
 use Rattle.kit_rules.specs.declared.table.Request.{Request}
-use Rattle.kit_rules.specs.Delivery.{pending}
+use Rattle.kit_rules.specs.Delivery.{pending_messages}
 use Rattle.kit_rules.specs.Simulation.{request_at}
 use Rattle.kit_rounds.specs.Channels.{IsUnreceived}
 use Rattle.kit_lbts.specs.declared.view.Filled.{Filled}
@@ -70,10 +70,10 @@ module _ (p : P) (i k head : ℕ) (li : i < p.own.federates) (lk : k < p.own.buf
   deed = ReadPart i k 1 (m (Part i k 1))
 
   abbrev now : Memory
-  now = stored m (Part i k 1) (m (Part i k 1))
+  now = with_word m (Part i k 1) (m (Part i k 1))
 
   abbrev q : P
-  q = acted progressed (ReadPart i k 1 (m (Part i k 1))) p
+  q = place_after progressed (ReadPart i k 1 (m (Part i k 1))) p
 
   abbrev f : Filled
   f = letter_in (get_or places i p).client k
@@ -107,7 +107,7 @@ module _ (p : P) (i k head : ℕ) (li : i < p.own.federates) (lk : k < p.own.buf
     pub spent : All (λ (s : Spent). (s.from < p.own.federates) × (s.buffer < p.own.buffers)) ss
     pub ordered : IsInOrder qs
     pub apart : AreNumberedApart qs
-    pub pend : messages_of qs ≡ in_order (pending p.client.federation p.own.number (delivered p.client) (received p.client ++ message ∷ []))
+    pub pend : messages_of qs ≡ in_order (pending_messages p.client.federation p.own.number (delivered p.client) (received p.client ++ message ∷ []))
     pub ahead : All (λ (e : Entry). time_of p.client < e.message.time) qs
     pub settled : All (λ (e : Entry). e.buffer ≡ None → e.message.time < bound_of p.client) qs
     pub lies : (a : ℕ) (v : LbtsView) → (a ≡ i → (letter_in v k).message ≡ message) → All (Lie a v) p.client.queue → All (Lie a v) qs
@@ -197,7 +197,7 @@ module _ (p : P) (i k head : ℕ) (li : i < p.own.federates) (lk : k < p.own.buf
     queue = record {
       ordered = taken.ordered;
       apart = taken.apart;
-      is = taken.pend ∙ (λ t. in_order (pending p.client.federation me (sym delivered_is t) (sym received_is t)));
+      is = taken.pend ∙ (λ t. in_order (pending_messages p.client.federation me (sym delivered_is t) (sym received_is t)));
       ahead = subst (λ (x : ℕ). All (λ (e : Entry). x < e.message.time) qs) (sym time_is) taken.ahead;
       settled = taken.settled;
     }
@@ -274,7 +274,7 @@ module _ (p : P) (i k head : ℕ) (li : i < p.own.federates) (lk : k < p.own.buf
         (subst (IsUnreceived (ledgers_of places) i me) (sym stamp) (arriving.unreceived p i k head li lk has_head m places w))
         (receipts_are p i k word)
 
-    pub receive : Kept lbts_rule m places now (slice_set places p.own.number (acted progressed (ReadPart i k 1 (m (Part i k 1))) p))
+    pub receive : RuleStays lbts_rule m places now (slice_set places p.own.number (place_after progressed (ReadPart i k 1 (m (Part i k 1))) p))
     receive = kept p m places w now deed (record { words = λ r. refl; federation = ap (λ (v : LbtsView). v.federation) is; same = ap said is; time = ap time_of is ∙ time_is }) (record {
       letters = subst (λ (v : LbtsView). Letters now me (with v)) (sym is) letters;
       others = λ a r other at. letters_aside m now a r (λ x lx on. on) (λ x y lx on. words a x y) (w.client.each a r at).letters;

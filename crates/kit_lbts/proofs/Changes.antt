@@ -12,8 +12,8 @@ use Rattle.kit_ground.specs.declared.address.Reg.{Reg}
 use Rattle.kit_ground.specs.declared.place.Deed.{Deed}
 use Rattle.kit_ground.specs.declared.place.Place.{Place}
 use Rattle.kit_ground.specs.Memory.{Memory}
-use Rattle.kit_ground.specs.Rules.{Kept, World}
-use Rattle.kit_ground.specs.Steps.{acted}
+use Rattle.kit_ground.specs.Rules.{RuleStays, World}
+use Rattle.kit_ground.specs.Steps.{place_after}
 use Rattle.kit_ground.proofs.PlaceSteps.{each_after}
 use Rattle.kit_model.specs.Blocks.{round_result}
 use Rattle.kit_model.specs.declared.share.Share.{Share}
@@ -196,7 +196,7 @@ module _ (p : P) (m : Memory) (places : List P) (w : World lbts_rule p m places)
     learnt_of j r s same h = subst (λ (n : ℕ). Learnt n (ledgers_of new) j s) (sym (length-set places p.own.number q))
         (learnt_still (length places) (ledgers_of places) (ledgers_of new) contributions_same j r s same h)
 
-    pub kept_at : ChangedAt → Kept lbts_rule m places now new
+    pub kept_at : ChangedAt → RuleStays lbts_rule m places now new
     kept_at h = record {
       client = record {
         common = common;
@@ -235,10 +235,10 @@ module _ (p : P) (m : Memory) (places : List P) (w : World lbts_rule p m places)
   mine = w.client.each p.own.number p w.here
 
   abbrev pub Steady : Type 0
-  Steady = SteadyAt p m places w now (acted progressed deed p) refl
+  Steady = SteadyAt p m places w now (place_after progressed deed p) refl
 
   abbrev pub Changed : Type 0
-  Changed = ChangedAt p m places w now (acted progressed deed p) refl
+  Changed = ChangedAt p m places w now (place_after progressed deed p) refl
 
-  pub kept : Steady → Changed → Kept lbts_rule m places now (slice_set places p.own.number (acted progressed deed p))
-  kept steady h = kept_at p m places w now (acted progressed deed p) refl steady h
+  pub kept : Steady → Changed → RuleStays lbts_rule m places now (slice_set places p.own.number (place_after progressed deed p))
+  kept steady h = kept_at p m places w now (place_after progressed deed p) refl steady h

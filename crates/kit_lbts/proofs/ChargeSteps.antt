@@ -13,9 +13,9 @@ use Rattle.kit_ground.specs.declared.place.Buffer.{Buffer}
 use Rattle.kit_ground.specs.declared.place.Deed.{Deed}
 use Rattle.kit_ground.specs.declared.place.Deed.TheVariants.{Charged}
 use Rattle.kit_ground.specs.declared.place.Place.{Place}
-use Rattle.kit_ground.specs.Memory.{Memory, stored}
-use Rattle.kit_ground.specs.Rules.{Kept, World}
-use Rattle.kit_ground.specs.Steps.{acted, becomes, buffer_of, charged}
+use Rattle.kit_ground.specs.Memory.{Memory, with_word}
+use Rattle.kit_ground.specs.Rules.{RuleStays, World}
+use Rattle.kit_ground.specs.Steps.{place_after, becomes, buffer_of, buffer_after_charge}
 use Rattle.kit_ground.proofs.Lists.{at_inside}
 use Rattle.kit_ground.proofs.Memories.{count_else}
 use Rattle.kit_ground.proofs.PlaceFacts.{buffers_wide, content_is}
@@ -51,10 +51,10 @@ module _ (p : P) (k mask : ℕ) (first : Message) (rest : List Message) (may : M
   deed = Charged k mask
 
   abbrev now : Memory
-  now = stored m (Count p.own.number k) (becomes (Charged k mask) (m (Count p.own.number k)))
+  now = with_word m (Count p.own.number k) (becomes (Charged k mask) (m (Count p.own.number k)))
 
   abbrev q : P
-  q = acted progressed (Charged k mask) p
+  q = place_after progressed (Charged k mask) p
 
   letter : Filled
   letter = letter_of p.client first
@@ -75,10 +75,10 @@ module _ (p : P) (k mask : ℕ) (first : Message) (rest : List Message) (may : M
   count_there x other = count_else m me k me x (becomes deed (m (Count me k))) (λ _. other)
 
   charged_here : (buffer_of q.own.stock k).to_post ≡ mask
-  charged_here = ap (λ (c : Buffer). c.to_post) (buffer_here p.own.stock k (charged mask (buffer_of p.own.stock k)) long)
+  charged_here = ap (λ (c : Buffer). c.to_post) (buffer_here p.own.stock k (buffer_after_charge mask (buffer_of p.own.stock k)) long)
 
   charged_there : (x : ℕ) → x ≢ k → (buffer_of q.own.stock x).to_post ≡ (buffer_of p.own.stock x).to_post
-  charged_there x other = ap (λ (c : Buffer). c.to_post) (buffer_else p.own.stock k (charged mask (buffer_of p.own.stock k)) x other)
+  charged_there x other = ap (λ (c : Buffer). c.to_post) (buffer_else p.own.stock k (buffer_after_charge mask (buffer_of p.own.stock k)) x other)
 
   sent_by_me : first.sender ≡ p.own.number
   sent_by_me =
@@ -160,7 +160,7 @@ module _ (p : P) (k mask : ℕ) (first : Message) (rest : List Message) (may : M
   way_me j s tj = way_still p.own.buffers (marked m me j) (marked now me j) me j q.client tj.before.client q.client s.client (λ x lx. refl) refl
       (still (λ (x : P). got x.client) places me p q refl j s tj) (way_before j tj.before tj.at)
 
-  pub charge : Kept lbts_rule m places now (slice_set places p.own.number (acted progressed (Charged k mask) p))
+  pub charge : RuleStays lbts_rule m places now (slice_set places p.own.number (place_after progressed (Charged k mask) p))
   charge = kept p m places w now deed (record { words = λ r. refl; federation = refl; same = refl; time = refl }) (record {
     letters = letters;
     others = λ i r other at.

@@ -14,9 +14,9 @@ use Rattle.kit_ground.specs.declared.address.Address.TheVariants.{Mail}
 use Rattle.kit_ground.specs.declared.place.Deed.{Deed}
 use Rattle.kit_ground.specs.declared.place.Deed.TheVariants.{Collected}
 use Rattle.kit_ground.specs.declared.place.Place.{Place}
-use Rattle.kit_ground.specs.Memory.{Memory, stored}
-use Rattle.kit_ground.specs.Rules.{Kept, World, stock_of}
-use Rattle.kit_ground.specs.Steps.{acted, mail_mask, own_after}
+use Rattle.kit_ground.specs.Memory.{Memory, with_word}
+use Rattle.kit_ground.specs.Rules.{RuleStays, World, stock_of}
+use Rattle.kit_ground.specs.Steps.{place_after, mail_mask, own_after}
 use Rattle.kit_ground.proofs.Lists.{at_inside}
 use Rattle.kit_ground.proofs.MailWords.{mask_else, mask_here, whole_buffer}
 use Rattle.kit_ground.proofs.Memories.{mail_else, stored_here}
@@ -67,10 +67,10 @@ module _ (p : P) (i word : ℕ) (li : i < p.own.federates) (old_seat : is_new p.
   deed = Collected i word (m (Mail p.own.number i word))
 
   abbrev now : Memory
-  now = stored m (Mail p.own.number i word) 0
+  now = with_word m (Mail p.own.number i word) 0
 
   abbrev q : P
-  q = acted progressed (Collected i word (m (Mail p.own.number i word))) p
+  q = place_after progressed (Collected i word (m (Mail p.own.number i word))) p
 
   abbrev new : List InHand
   new = map (in_hand i) (buffers_in p.own.buffers word (m (Mail p.own.number i word)))
@@ -230,7 +230,7 @@ module _ (p : P) (i word : ℕ) (li : i < p.own.federates) (old_seat : is_new p.
       subst (λ (n : ℕ). Way n (marked now a me) a me r.client q.client) (sym b)
       (way_still ta.before.own.buffers (marked now a me) (marked now a me) a me ta.before.client then r.client q.client (λ x lx. refl) s (ap got is) new_way)
 
-  pub collect : Kept lbts_rule m places now (slice_set places p.own.number (acted progressed (Collected i word (m (Mail p.own.number i word))) p))
+  pub collect : RuleStays lbts_rule m places now (slice_set places p.own.number (place_after progressed (Collected i word (m (Mail p.own.number i word))) p))
   collect = kept p m places w now deed (record { words = λ r. refl; federation = ap (λ (v : LbtsView). v.federation) is; same = ap said is; time = ap time_of is }) (record {
     letters = subst (λ (v : LbtsView). Letters now me (with v)) (sym is) letters;
     others = λ a r other at. letters_aside m now a r (λ x lx on. on) (λ x y lx on. refl) (w.client.each a r at).letters;
@@ -249,17 +249,17 @@ module _ (p : P) (i word : ℕ) (li : i < p.own.federates) (old_seat : is_new p.
 
 -- where the start's rules have not run, they run first
 first_collect : (p : P) (i word : ℕ) → i < p.own.federates → is_new p.client.request ≡ true → length (ready p.own.number p.client).state.sends ≤ most_sends → (m : Memory) (places : List P) (w : World lbts_rule p m places)
-    → Kept lbts_rule m places (stored m (Mail p.own.number i word) 0) (slice_set places p.own.number (acted progressed (Collected i word (m (Mail p.own.number i word))) p))
+    → RuleStays lbts_rule m places (with_word m (Mail p.own.number i word) 0) (slice_set places p.own.number (place_after progressed (Collected i word (m (Mail p.own.number i word))) p))
 first_collect p i word li fresh few m places w =
     let me : ℕ = p.own.number in
     let deed = Collected i word (m (Mail p.own.number i word)) in
-    let now : Memory = stored m (Mail p.own.number i word) 0 in
+    let now : Memory = with_word m (Mail p.own.number i word) 0 in
     let p' : P = record p { client = started p.own.number p.client } in
     let k = collect p' i word li refl m (slice_set places me p') (started_world p fresh (subst (λ (b : Bool). length (cond b (started p.own.number p.client) p.client).state.sends ≤ most_sends) fresh few) m places w) in
     let view : ready me p.client ≡ started me p.client = ap (λ (b : Bool). cond b (started p.own.number p.client) p.client) fresh in
-    let same : acted progressed deed p' ≡ acted progressed deed p = λ t. record { own = own_after deed p.own; client = collected p.own.buffers i word (m (Mail p.own.number i word)) (sym view t) } in
-    let after : slice_set (slice_set places me p') me (acted progressed deed p') ≡ slice_set places me (acted progressed deed p) =
-    set-set places me p' (acted progressed deed p') ∙ ap (slice_set places me) same in
+    let same : place_after progressed deed p' ≡ place_after progressed deed p = λ t. record { own = own_after deed p.own; client = collected p.own.buffers i word (m (Mail p.own.number i word)) (sym view t) } in
+    let after : slice_set (slice_set places me p') me (place_after progressed deed p') ≡ slice_set places me (place_after progressed deed p) =
+    set-set places me p' (place_after progressed deed p') ∙ ap (slice_set places me) same in
     record { client = subst (LbtsRule now) after k.client; guests = λ g sees. tt }
 
 pub collects_keep : CollectsKeep lbts_rule

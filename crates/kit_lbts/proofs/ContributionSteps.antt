@@ -11,9 +11,9 @@ use Rattle.kit_ground.specs.declared.address.Address.TheVariants.{Register}
 use Rattle.kit_ground.specs.declared.address.Reg.{Reg}
 use Rattle.kit_ground.specs.declared.place.Deed.TheVariants.{Published}
 use Rattle.kit_ground.specs.declared.place.Place.{Place}
-use Rattle.kit_ground.specs.Memory.{Memory, stored}
+use Rattle.kit_ground.specs.Memory.{Memory, with_word}
 use Rattle.kit_ground.specs.Rules.{World}
-use Rattle.kit_ground.specs.Steps.{acted, own_after}
+use Rattle.kit_ground.specs.Steps.{place_after, own_after}
 use Rattle.kit_ground.proofs.Lists.{at_inside}
 use Rattle.kit_ground.proofs.Memories.{register_else, stored_here}
 use Rattle.kit_model.specs.Shares.{FitsWord, share_word}
@@ -70,7 +70,7 @@ module _ (p : P) (m : Memory) (places : List P) (w : World lbts_rule p m places)
   word = share_word (next_contribution p).share (length p.client.contributions + 1)
 
   abbrev now : Memory
-  now = stored m (Register (reg_of p.own.number share_stage (length p.client.contributions + 1))) (share_word (next_contribution p).share (length p.client.contributions + 1))
+  now = with_word m (Register (reg_of p.own.number share_stage (length p.client.contributions + 1))) (share_word (next_contribution p).share (length p.client.contributions + 1))
 
   abbrev v : LbtsView
   v = record p.client { contributions = p.client.contributions ++ next_contribution p ∷ []; taken = [] }
@@ -245,7 +245,7 @@ module _ (p : P) (level : length p.client.contributions ≡ length p.client.resu
 
   -- the rule holds where the federate contributes with this view
   abbrev After : LbtsView → Type 0
-  After u = LbtsRule (stored m (Register reg) (word_of u)) (slice_set places p.own.number (record { own = own_after (Published reg (word_of u)) p.own; client = contributed (record p { client = u }) }))
+  After u = LbtsRule (with_word m (Register reg) (word_of u)) (slice_set places p.own.number (record { own = own_after (Published reg (word_of u)) p.own; client = contributed (record p { client = u }) }))
 
   from_ready : (b : Bool) → is_new p.client.request ≡ b → After (cond b (started p.own.number p.client) p.client)
   from_ready false e =
@@ -254,7 +254,7 @@ module _ (p : P) (level : length p.client.contributions ≡ length p.client.resu
       let p' : P = record p { client = started p.own.number p.client } in
       let word : ℕ = word_of (started p.own.number p.client) in
       let then = started_world p e (subst (λ (b : Bool). length (cond b (started p.own.number p.client) p.client).state.sends ≤ most_sends) e few) m places w in
-      subst (LbtsRule (stored m (Register reg) word)) (set-set places p.own.number p' (record { own = own_after (Published reg word) p.own; client = contributed p' }))
+      subst (LbtsRule (with_word m (Register reg) word)) (set-set places p.own.number p' (record { own = own_after (Published reg word) p.own; client = contributed p' }))
       (contribution p' m (slice_set places p.own.number p') then level idle out (next_fits p' m (slice_set places p.own.number p') then p.own.number p' then.here))
 
   is_share : (u g c x : LbtsView) (a b : Bool) → a ≡ false → b ≡ true → cond a g (cond b u (cond (reg.slot % 6 == 0) c x)) ≡ u
@@ -264,11 +264,11 @@ module _ (p : P) (level : length p.client.contributions ≡ length p.client.resu
 
   pub contribution_keeps : let r = reg_of p.own.number share_stage (length p.client.contributions + 1) in
       let word = share_word (next_contribution (ready_place p)).share (length p.client.contributions + 1) in
-      LbtsRule (stored m (Register r) word) (slice_set places p.own.number (acted progressed (Published r word) p))
+      LbtsRule (with_word m (Register r) word) (slice_set places p.own.number (place_after progressed (Published r word) p))
   contribution_keeps =
       let word : ℕ = word_of (ready p.own.number p.client) in
       let slot : reg.slot % 6 ≡ share_stage = omega arith in
-      subst (λ (u : LbtsView). LbtsRule (stored m (Register reg) word) (slice_set places p.own.number (record { own = own_after (Published reg word) p.own; client = u })))
+      subst (λ (u : LbtsView). LbtsRule (with_word m (Register reg) word) (slice_set places p.own.number (record { own = own_after (Published reg word) p.own; client = u })))
       (sym (is_share (contributed (ready_place p)) (granted p.own.number word p.client) (closed p.own.federates p.own.number p.client) p.client (reg.slot == 12) (reg.slot % 6 == share_stage)
       (ne_eqb reg.slot 12 (λ e. omega (arith, e))) (eq-eqb (reg.slot % 6) share_stage slot)))
       (from_ready (is_new p.client.request) refl)

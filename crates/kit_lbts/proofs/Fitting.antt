@@ -15,7 +15,7 @@ use Rattle.kit_ground.specs.Memory.{Memory}
 use Rattle.kit_ground.specs.Rules.{World}
 use Rattle.kit_ground.proofs.Lists.{at_inside, at_or}
 use Rattle.kit_model.specs.declared.share.Share.{Share}
-use Rattle.kit_model.specs.Blocks.{everybody, in_block, joined_over, width}
+use Rattle.kit_model.specs.Blocks.{everybody, in_block, share_sum_over, width}
 use Rattle.kit_model.specs.Counts.{is_old}
 use Rattle.kit_model.specs.Shares.{FitsWord}
 use Rattle.kit_model.proofs.Sieves.{all_pass, least_le_start}
@@ -246,7 +246,7 @@ module _ (at_p : P) (m : Memory) (places : List P) (w : World lbts_rule at_p m p
 
   -- the shares of some who contributed, together
   over_fits : (k one : ℕ) (t : ℕ → Bool) → one < length places → HasContributed (ledgers_of places one) k → ((j : ℕ) → j < length places → t j ≡ true → HasContributed (ledgers_of places j) k)
-      → FitsWord (joined_over (shares_at (ledgers_of places) k) one (filter t (everybody (length places))))
+      → FitsWord (share_sum_over (shares_at (ledgers_of places) k) one (filter t (everybody (length places))))
   over_fits k one t lt has made =
       let ys : List ℕ = filter t (everybody n) in
       let share : ℕ → Share = shares_at ledgers k in
@@ -282,8 +282,8 @@ module _ (at_p : P) (m : Memory) (places : List P) (w : World lbts_rule at_p m p
           | inl five ↦
               let all : (j : ℕ) → j < n → HasContributed (ledgers j) k = λ j lt. made j lt (ap (λ s. takes_in n owner s j) five ∙ lt-ltb j n lt) in
               let some_one : 0 < n = omega (arith, place.there) in
-              let h : FitsWord (joined_over share 0 (everybody n)) =
-              subst (λ ys. FitsWord (joined_over share 0 ys)) (all_pass (λ _. true) 0 n (λ y low lt. refl)) (over_fits k 0 (λ _. true) some_one (all 0 some_one) (λ j lt e. all j lt)) in
+              let h : FitsWord (share_sum_over share 0 (everybody n)) =
+              subst (λ ys. FitsWord (share_sum_over share 0 ys)) (all_pass (λ _. true) 0 n (λ y low lt. refl)) (over_fits k 0 (λ _. true) some_one (all 0 some_one) (λ j lt e. all j lt)) in
               subst (λ s. FitsWord (value_at n share owner s)) (sym five) h
           | inr not_five ↦
               let early : stage < 4 = before_share stage place.known not_four not_five in

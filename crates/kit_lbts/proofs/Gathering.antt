@@ -8,7 +8,7 @@ use Rattle.std.proofs.lemmas.List.FromFn.{get_or-map-range_with_len, length-map-
 use Rattle.std.proofs.lemmas.Nat.{pow_below}
 use Rattle.kit_model.specs.declared.share.Share.{Share}
 use Rattle.kit_model.specs.Blocks.{stages, width, partner_of, everybody, stage_value, round_result}
-use Rattle.kit_model.specs.Shares.{joined}
+use Rattle.kit_model.specs.Shares.{share_sum}
 use Rattle.kit_model.proofs.Sieves.{least, least_either, least_le, least_le_start, sum_either, all_pass, one_passes}
 use Rattle.kit_rounds.proofs.Results.{least_from}
 use Rattle.kit_model.proofs.Widths.{width_is_greatest}
@@ -64,28 +64,28 @@ outer_false n x within e = ap (λ b. b && nat_lt (width n + x) n) (sym (lt-ltb x
 
 -- within the butterfly, the shares that are taken in come to the value of each stage
 gather_from : (n x : ℕ) (share : ℕ → Share) (taken : List Share) (b : Bool) → 1 ≤ n → n ≤ 16 → x < width n → has_outer n x ≡ b → Values (inner n x b) n share taken
-    → (s : ℕ) → s ≤ stages n → s + shift b ≤ length taken → fold joined (share x) (take (s + shift b) taken) ≡ stage_value n share s x
+    → (s : ℕ) → s ≤ stages n → s + shift b ≤ length taken → fold share_sum (share x) (take (s + shift b) taken) ≡ stage_value n share s x
 gather_from n x share taken true one few within outer values zero le has =
-    ap (fold joined (share x)) (take_more taken 0 unknown (omega arith)) ∙ ap (joined (share x)) (values 0 (omega arith))
-    ∙ sym (first_value n share x one within ∙ ap (λ b. cond b (joined (share x) (share (width n + x))) (share x)) (outer_true n x outer))
+    ap (fold share_sum (share x)) (take_more taken 0 unknown (omega arith)) ∙ ap (share_sum (share x)) (values 0 (omega arith))
+    ∙ sym (first_value n share x one within ∙ ap (λ b. cond b (share_sum (share x) (share (width n + x))) (share x)) (outer_true n x outer))
 gather_from n x share taken false one few within outer values zero le has =
-    sym (first_value n share x one within ∙ ap (λ b. cond b (joined (share x) (share (width n + x))) (share x)) (outer_false n x within outer))
+    sym (first_value n share x one within ∙ ap (λ b. cond b (share_sum (share x) (share (width n + x))) (share x)) (outer_false n x within outer))
 gather_from n x share taken b one few within outer values (suc s) le has =
     let k = s + shift b in
     let e : suc s + shift b ≡ k + 1 = omega arith in
     let there : k < length taken = omega arith in
     let value : get_or taken k unknown ≡ stage_value n share s (partner_of s x) =
     values k there ∙ ap (λ (c : Source). value_at n share c.owner c.stage) (inner_at n x s b (omega arith)) ∙ value_of_stage n share (partner_of s x) s (omega (arith, few_stages n one few)) in
-    ap (λ m. fold joined (share x) (take m taken)) e ∙ ap (fold joined (share x)) (take_more taken k unknown there) ∙ fold_push joined (share x) (take k taken) (get_or taken k unknown)
-    ∙ ap (λ a. joined a (get_or taken k unknown)) (gather_from n x share taken b one few within outer values s (omega arith) (omega arith))
-    ∙ ap (joined (stage_value n share s x)) value ∙ sym (next_value n share s x one within (omega arith)) ∙ ap (λ m. stage_value n share m x) next
+    ap (λ m. fold share_sum (share x) (take m taken)) e ∙ ap (fold share_sum (share x)) (take_more taken k unknown there) ∙ fold_push share_sum (share x) (take k taken) (get_or taken k unknown)
+    ∙ ap (λ a. share_sum a (get_or taken k unknown)) (gather_from n x share taken b one few within outer values s (omega arith) (omega arith))
+    ∙ ap (share_sum (stage_value n share s x)) value ∙ sym (next_value n share s x one within (omega arith)) ∙ ap (λ m. stage_value n share m x) next
   where
     next : s + 1 ≡ suc s
     next = omega arith
 
 -- what x gathers, by whether it is an outer federate
 abbrev by_place : ℕ → ℕ → Bool → Share → List Share → Share
-by_place n x outer own taken = cond outer (handed_back own taken) (fold joined own taken)
+by_place n x outer own taken = cond outer (handed_back own taken) (fold share_sum own taken)
 
 abbrev pub places_by : ℕ → ℕ → Bool → Bool → List Source
 places_by n x outer b = cond outer (source (x - width n) back_stage ∷ []) (inner n x b)
@@ -100,7 +100,7 @@ result_by n x share taken true one few is values all = first taken values all
 result_by n x share taken false one few is values all =
     let within : x < width n = ltb-true x (width n) (inside (nat_lt x (width n)) is) in
     let count : length taken ≡ stages n + shift (has_outer n x) = all ∙ inner_length n x (has_outer n x) in
-    ap (fold joined (share x)) (sym (take_all (stages n + shift (has_outer n x)) taken (omega (arith, count))))
+    ap (fold share_sum (share x)) (sym (take_all (stages n + shift (has_outer n x)) taken (omega (arith, count))))
     ∙ gather_from n x share taken (has_outer n x) one few within refl values (stages n) (omega arith) (omega (arith, count))
     ∙ last_value n share x one within
   where
@@ -110,10 +110,10 @@ result_by n x share taken false one few is values all =
 
 -- shares that are joined one by one
 joined_list : (share : ℕ → Share) (own : Share) (ys : List ℕ)
-    → fold joined own (map share ys) ≡ record { out = own.out + sum_by (λ y. (share y).out) ys; inn = own.inn + sum_by (λ y. (share y).inn) ys; low = least (λ y. (share y).low) own.low ys }
+    → fold share_sum own (map share ys) ≡ record { out = own.out + sum_by (λ y. (share y).out) ys; inn = own.inn + sum_by (λ y. (share y).inn) ys; low = least (λ y. (share y).low) own.low ys }
 joined_list share own [] = ap (λ k. record own { out = k }) (omega arith) ∙ ap (λ k. record { out = own.out + 0; inn = k; low = own.low }) (omega arith)
 joined_list share own (y ∷ ys) =
-    joined_list share (joined own (share y)) ys
+    joined_list share (share_sum own (share y)) ys
     ∙ ap (λ k. record { out = k; inn = own.inn + (share y).inn + sum_by (λ y. (share y).inn) ys; low = least (λ y. (share y).low) (min own.low (share y).low) ys }) outs
     ∙ ap (λ k. record { out = own.out + sum_by (λ y. (share y).out) (y ∷ ys); inn = k; low = least (λ y. (share y).low) (min own.low (share y).low) ys }) inns
   where
@@ -178,9 +178,9 @@ flat_taken n x share taken values all =
     ∙ sym (get_or-map share (others n x) l 0 unknown (omega (arith, many))))
 
 flat_result : (n x : ℕ) (share : ℕ → Share) (taken : List Share) → x < n → Values (sources Flat n x) n share taken → length taken ≡ length (sources Flat n x)
-    → fold joined (share x) taken ≡ round_result n share
+    → fold share_sum (share x) taken ≡ round_result n share
 flat_result n x share taken lt values all =
-    ap (fold joined (share x)) (flat_taken n x share taken values all) ∙ joined_list share (share x) (others n x)
+    ap (fold share_sum (share x)) (flat_taken n x share taken values all) ∙ joined_list share (share x) (others n x)
     ∙ ap (λ k. record { out = k; inn = (share x).inn + sum_by (λ y. (share y).inn) (others n x); low = least (λ y. (share y).low) (share x).low (others n x) }) (sum_others (λ y. (share y).out) n x lt)
     ∙ ap (λ k. record { out = sum_by (λ y. (share y).out) (everybody n); inn = k; low = least (λ y. (share y).low) (share x).low (others n x) }) (sum_others (λ y. (share y).inn) n x lt)
     ∙ ap (λ k. record { out = sum_by (λ y. (share y).out) (everybody n); inn = sum_by (λ y. (share y).inn) (everybody n); low = k }) (least_others (λ y. (share y).low) n x lt)

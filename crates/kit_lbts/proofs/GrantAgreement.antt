@@ -8,7 +8,7 @@ use Rattle.kit_ground.specs.declared.place.Deed.TheVariants.{Published}
 use Rattle.kit_ground.specs.declared.place.Place.{Place}
 use Rattle.kit_ground.specs.Memory.{Memory}
 use Rattle.kit_ground.specs.Rules.{World}
-use Rattle.kit_ground.specs.Steps.{acted}
+use Rattle.kit_ground.specs.Steps.{place_after}
 use Rattle.kit_ground.proofs.Lists.{at_inside, at_or}
 use Rattle.kit_ground.proofs.PlaceSteps.{each_after}
 use Rattle.kit_parts.specs.Cuts.{Heard}
@@ -20,9 +20,9 @@ use Rattle.kit_parts.proofs.Seats.{from_append}
 use Rattle.kit_queue.specs.declared.entry.Entry.{Entry}
 use Rattle.kit_rules.specs.declared.scene.State.{State}
 use Rattle.kit_rules.specs.declared.table.Request.{Request}
-use Rattle.kit_rules.specs.Delivery.{due_messages, due_time, pending}
+use Rattle.kit_rules.specs.Delivery.{due_messages, due_time, pending_messages}
 use Rattle.kit_rules.specs.Parts.{Parts}
-use Rattle.kit_rules.specs.Simulation.{Block, Seat, after_block, block, lines_of, request_at, seat_due, started_seat}
+use Rattle.kit_rules.specs.Simulation.{Block, Seat, after_block, block, lines_of, request_at, seat_due, seat_at_start}
 use Rattle.kit_lbts.specs.declared.view.LbtsView.{LbtsView}
 use Rattle.kit_lbts.specs.Views.{delivered, due_of, entries_of, is_new, received, time_of}
 use Rattle.kit_lbts.specs.Promises.{bound_of}
@@ -106,8 +106,8 @@ module _ (p : P) (asked : p.client.request ≢ None) (none : p.client.outbox ≡
       let G : Seat → Type 0 = λ s. s.now < f.end → seat_due f (received v) me s < bound_of v
       → IsFront f me (done ++ block me (seat_due f (received v) me s) (due_messages f me (seat_due f (received v) me s) s.got (received v)) ∷ []) in
       let first : G (seat_of request.0 v) = subst G before (grants_agree_law f sound (bound_of v) me within (received v) heard done old.front) in
-      let due_is : d ≡ due_time request.0 (pending f me (delivered v) (received v)) =
-      step.due_is p asked none lt below loose m places w ∙ ap (due_time request.0) (w.client.each me p w.here).queue.is ∙ due_ordered request.0 (pending f me (delivered v) (received v)) in
+      let due_is : d ≡ due_time request.0 (pending_messages f me (delivered v) (received v)) =
+      step.due_is p asked none lt below loose m places w ∙ ap (due_time request.0) (w.client.each me p w.here).queue.is ∙ due_ordered request.0 (pending_messages f me (delivered v) (received v)) in
       let H : ℕ → Type 0 = λ x. x < bound_of v → IsFront f me (done ++ block me x (due_messages f me x (delivered v) (received v)) ∷ []) in
       let second : H d = subst H (sym due_is) (first lt) in
       subst (λ (l : List Message). IsFront f me (done ++ block me d l ∷ [])) (sym (step.due_messages_are p asked none lt below loose m places w)) (second below)
@@ -127,7 +127,7 @@ module _ (p : P) (asked : p.client.request ≢ None) (none : p.client.outbox ≡
         let time_is = step.time_is p asked none lt below loose m places w in
         let delivered_is = step.delivered_is p asked none lt below loose m places w in
         ap (seat_after f me) blocks_are
-        ∙ from_append f me (started_seat f me) (blocks_in me v) (b ∷ [])
+        ∙ from_append f me (seat_at_start f me) (blocks_in me v) (b ∷ [])
         ∙ ap (seat_with f me b) before
         ∙ (λ t. record { now = sym time_is t; request = req t; state = after; got = sym delivered_is t });
   }
@@ -139,7 +139,7 @@ asides_agree p a deed keeps tells m places w =
     record {
       client = record {
         floor = k.client;
-        agree = each_after (λ i (r : P). Agrees i r.client) places p.own.number (acted progressed (deed (m a)) p)
+        agree = each_after (λ i (r : P). Agrees i r.client) places p.own.number (place_after progressed (deed (m a)) p)
             (agrees_same p.own.number p.client (progressed (deed (m a)) p) (tells (m a)) (w.client.agree p.own.number p w.here))
             (λ i r other at. w.client.agree i r at);
       };
@@ -154,7 +154,7 @@ grants_agree p asked none lt below loose few m places w =
     record {
       client = record {
         floor = k.client;
-        agree = each_after (λ i (r : P). Agrees i r.client) places p.own.number (acted progressed deed p)
+        agree = each_after (λ i (r : P). Agrees i r.client) places p.own.number (place_after progressed deed p)
             (agrees_granted p asked none lt below loose m places (without p m places w) w.client.agree)
             (λ i r other at. w.client.agree i r at);
       };

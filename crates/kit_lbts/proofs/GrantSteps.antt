@@ -13,9 +13,9 @@ use Rattle.kit_ground.specs.declared.address.Address.TheVariants.{Register}
 use Rattle.kit_ground.specs.declared.address.Reg.{Reg}
 use Rattle.kit_ground.specs.declared.place.Deed.TheVariants.{Published}
 use Rattle.kit_ground.specs.declared.place.Place.{Place}
-use Rattle.kit_ground.specs.Memory.{Memory, stored}
+use Rattle.kit_ground.specs.Memory.{Memory, with_word}
 use Rattle.kit_ground.specs.Rules.{World}
-use Rattle.kit_ground.specs.Steps.{acted, own_after}
+use Rattle.kit_ground.specs.Steps.{place_after, own_after}
 use Rattle.kit_ground.proofs.Lists.{at_inside}
 use Rattle.kit_ground.proofs.Memories.{register_else, stored_here}
 use Rattle.kit_laws.proofs.Pendings.{From, due_capped, due_from}
@@ -112,7 +112,7 @@ module _ (p : P) (asked : p.client.request ≢ None) (none : p.client.outbox ≡
   r = clock_of p.own.number
 
   abbrev now : Memory
-  now = stored m (Register (clock_of p.own.number)) (due_of p.client)
+  now = with_word m (Register (clock_of p.own.number)) (due_of p.client)
 
   abbrev due : List Message
   due = due_in (due_of p.client) p.client.queue
@@ -430,7 +430,7 @@ module _ (p : P) (asked : p.client.request ≢ None) (none : p.client.outbox ≡
     rounds = rises_keep_rounds places me p q w.here w.client.rounds (grants_are p idle (omega (arith, later)) no_earlier);
   }
 
-  pub grant : length (granted p.own.number (due_of p.client) p.client).state.sends ≤ most_sends → LbtsRule (stored m (Register (clock_of p.own.number)) (due_of p.client)) (slice_set places p.own.number (acted progressed (Published (clock_of p.own.number) (due_of p.client)) p))
+  pub grant : length (granted p.own.number (due_of p.client) p.client).state.sends ≤ most_sends → LbtsRule (with_word m (Register (clock_of p.own.number)) (due_of p.client)) (slice_set places p.own.number (place_after progressed (Published (clock_of p.own.number) (due_of p.client)) p))
   grant few = published_at p m places w now q refl (omega (arith, inside)) (record {
     words = λ x other. register_else m r x d (λ own. absurd (other own));
     federation = refl;

@@ -12,7 +12,7 @@ use Rattle.kit_lbts.specs.declared.view.InHand.{InHand}
 use Rattle.kit_lbts.specs.declared.view.Spent.{Spent}
 use Rattle.kit_lbts.specs.Views.{is_in_hand, is_spent}
 use Rattle.kit_queue.specs.declared.entry.Entry.{Entry}
-use Rattle.kit_queue.specs.Entries.{messages_of, settled}
+use Rattle.kit_queue.specs.Entries.{messages_of, without_buffer}
 use Rattle.kit_lbts.specs.Seats.{waits_in, is_buffer}
 use Rattle.kit_lbts.specs.Progress.{in_hand}
 
@@ -141,24 +141,24 @@ waits_else i k a c apart e h = false_from_ne_true (waits_in a c e) (λ g.
     apart (sym u.0 ∙ t.0) (sym same))
 
 -- an entry without its buffer waits in none
-pub settled_waits : (a c : ℕ) (e : Entry) → waits_in a c (settled e) ≡ false
+pub settled_waits : (a c : ℕ) (e : Entry) → waits_in a c (without_buffer e) ≡ false
 settled_waits a c e = and_right (e.message.sender == a) false refl
 
 -- the entries, where those that wait in a buffer give it up
 abbrev pub give_up : ℕ → ℕ → Entry → Entry
-give_up i k e = cond (waits_in i k e) (settled e) e
+give_up i k e = cond (waits_in i k e) (without_buffer e) e
 
 pub given_up_here : (i k : ℕ) (es : List Entry) → count_by (waits_in i k) (map (give_up i k) es) ≡ 0
 given_up_here i k es = count_map (give_up i k) (waits_in i k) (λ _. false) es (λ e. one e (waits_in i k e) refl) ∙ count_none (λ _. false) es (λ e. refl)
   where
-    one : (e : Entry) (b : Bool) → waits_in i k e ≡ b → waits_in i k (cond b (settled e) e) ≡ false
+    one : (e : Entry) (b : Bool) → waits_in i k e ≡ b → waits_in i k (cond b (without_buffer e) e) ≡ false
     one e true h = settled_waits i k e
     one e false h = h
 
 pub given_up_else : (i k a c : ℕ) → ((a ≡ i) → (c ≡ k) → ⊥) → (es : List Entry) → count_by (waits_in a c) (map (give_up i k) es) ≡ count_by (waits_in a c) es
 given_up_else i k a c apart es = count_map (give_up i k) (waits_in a c) (waits_in a c) es (λ e. one e (waits_in i k e) refl)
   where
-    one : (e : Entry) (b : Bool) → waits_in i k e ≡ b → waits_in a c (cond b (settled e) e) ≡ waits_in a c e
+    one : (e : Entry) (b : Bool) → waits_in i k e ≡ b → waits_in a c (cond b (without_buffer e) e) ≡ waits_in a c e
     one e true h = settled_waits a c e ∙ sym (waits_else i k a c apart e h)
     one e false h = refl
 
@@ -166,15 +166,15 @@ pub given_up_messages : (i k : ℕ) (es : List Entry) → messages_of (map (give
 given_up_messages i k [] = refl
 given_up_messages i k (e ∷ es) = (λ t. one e (waits_in i k e) t ∷ given_up_messages i k es t)
   where
-    one : (e : Entry) (b : Bool) → (cond b (settled e) e).message ≡ e.message
+    one : (e : Entry) (b : Bool) → (cond b (without_buffer e) e).message ≡ e.message
     one e true = refl
     one e false = refl
 
 -- what is said of each entry, where it does not speak of buffers, or speaks well of none
-pub given_up_all : (A : Entry → Type 0) (i k : ℕ) (es : List Entry) → ((e : Entry) → waits_in i k e ≡ true → A e → A (settled e)) → All A es → All A (map (give_up i k) es)
+pub given_up_all : (A : Entry → Type 0) (i k : ℕ) (es : List Entry) → ((e : Entry) → waits_in i k e ≡ true → A e → A (without_buffer e)) → All A es → All A (map (give_up i k) es)
 given_up_all A i k es settles h = All-map A (give_up i k) es (All-weaker A (λ e. A (give_up i k e)) (λ e old. one e (waits_in i k e) refl old) es h)
   where
-    one : (e : Entry) (b : Bool) → waits_in i k e ≡ b → A e → A (cond b (settled e) e)
+    one : (e : Entry) (b : Bool) → waits_in i k e ≡ b → A e → A (cond b (without_buffer e) e)
     one e true h old = settles e h old
     one e false h old = old
 

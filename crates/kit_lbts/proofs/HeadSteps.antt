@@ -10,9 +10,9 @@ use Rattle.kit_ground.specs.declared.address.Address.TheVariants.{Part}
 use Rattle.kit_ground.specs.declared.place.Deed.{Deed}
 use Rattle.kit_ground.specs.declared.place.Deed.TheVariants.{ReadPart}
 use Rattle.kit_ground.specs.declared.place.Place.{Place}
-use Rattle.kit_ground.specs.Memory.{Memory, stored}
-use Rattle.kit_ground.specs.Rules.{Kept, World}
-use Rattle.kit_ground.specs.Steps.{acted}
+use Rattle.kit_ground.specs.Memory.{Memory, with_word}
+use Rattle.kit_ground.specs.Rules.{RuleStays, World}
+use Rattle.kit_ground.specs.Steps.{place_after}
 use Rattle.kit_ground.proofs.Memories.{stored_same}
 use Rattle.kit_ground.proofs.PlaceFacts.{held_counted}
 use Rattle.kit_lbts.specs.declared.view.InHand.{InHand}
@@ -50,10 +50,10 @@ module _ (p : P) (i k : ℕ) (li : i < p.own.federates) (lk : k < p.own.buffers)
   deed = ReadPart i k 0 (m (Part i k 0))
 
   abbrev now : Memory
-  now = stored m (Part i k 0) (m (Part i k 0))
+  now = with_word m (Part i k 0) (m (Part i k 0))
 
   abbrev q : P
-  q = acted progressed (ReadPart i k 0 (m (Part i k 0))) p
+  q = place_after progressed (ReadPart i k 0 (m (Part i k 0))) p
 
   words : (a c x : ℕ) → now (Part a c x) ≡ m (Part a c x)
   words a c x = ap (λ (y : Memory). y (Part a c x)) (stored_same m (Part i k 0))
@@ -95,7 +95,7 @@ module _ (p : P) (i k : ℕ) (li : i < p.own.federates) (lk : k < p.own.buffers)
       (way_still ta.before.own.buffers (marked m a me) (marked now a me) a me ta.before.client q.client r.client q.client (λ x lx. refl)
       (still (λ (x : P). sent me x.client) places me p q refl a r ta) refl old)
 
-  pub head_read : Kept lbts_rule m places now (slice_set places p.own.number (acted progressed (ReadPart i k 0 (m (Part i k 0))) p))
+  pub head_read : RuleStays lbts_rule m places now (slice_set places p.own.number (place_after progressed (ReadPart i k 0 (m (Part i k 0))) p))
   head_read = kept p m places w now deed (record { words = λ r. refl; federation = refl; same = refl; time = refl }) (record {
     letters = letters;
     others = λ a r other at. letters_aside m now a r (λ x lx on. on) (λ x y lx on. words a x y) (w.client.each a r at).letters;

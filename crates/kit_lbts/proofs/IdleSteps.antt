@@ -7,9 +7,9 @@ use Rattle.kit_ground.specs.declared.address.Reg.{Reg}
 use Rattle.kit_ground.specs.declared.place.Deed.{Deed}
 use Rattle.kit_ground.specs.declared.place.Deed.TheVariants.{Wrote, SawFree, SawStop, Stopped}
 use Rattle.kit_ground.specs.declared.place.Place.{Place}
-use Rattle.kit_ground.specs.Memory.{Memory, stored}
-use Rattle.kit_ground.specs.Rules.{Kept, World}
-use Rattle.kit_ground.specs.Steps.{acted, buffer_of, own_after, stock_after, seen, written}
+use Rattle.kit_ground.specs.Memory.{Memory, with_word}
+use Rattle.kit_ground.specs.Rules.{RuleStays, World}
+use Rattle.kit_ground.specs.Steps.{place_after, buffer_of, own_after, stock_after, buffer_after_look, buffer_after_write}
 use Rattle.kit_ground.proofs.Memories.{part_else, stored_same}
 use Rattle.kit_ground.proofs.PlaceFacts.{buffers_wide, free_uncounted}
 use Rattle.kit_base.specs.declared.message.Message.{Message}
@@ -102,18 +102,18 @@ module _ (p : P) (m : Memory) (places : List P) (w : World lbts_rule p m places)
     granting = subst (λ (v : LbtsView). Granting (with v)) (sym leaves.view) granting;
     sends = subst (λ (v : LbtsView). Sends p.own.number (with v)) (sym leaves.view) sends;
     ways = λ i j r s ti tj.
-        let q = acted progressed deed p in
+        let q = place_after progressed deed p in
         let vr = still (λ (x : P). x.client) places p.own.number p q leaves.view i r ti in
         let vs = still (λ (x : P). x.client) places p.own.number p q leaves.view j s tj in
         let b = still (λ (x : P). x.own.buffers) places p.own.number p q refl i r ti in
         subst (λ (n : ℕ). Way n (marked now i j) i j r.client s.client) (sym b)
         (way_still ti.before.own.buffers (marked m i j) (marked now i j) i j ti.before.client tj.before.client r.client s.client
         (λ k lk. ap (λ (x : ℕ). bit_at x (k % 64)) (leaves.mail j i (k / 64))) (ap (sent j) vr) (ap got vs) (w.client.ways i j ti.before tj.before ti.at tj.at));
-    rounds = rises_keep_rounds places p.own.number p (acted progressed deed p) w.here w.client.rounds
+    rounds = rises_keep_rounds places p.own.number p (place_after progressed deed p) w.here w.client.rounds
         (subst (λ (v : LbtsView). Rises (ledger_of p) (ledger_of (with v))) (sym leaves.view) (record { rises = omega arith; is = refl }));
   }
 
-  pub idle : Kept lbts_rule m places now (slice_set places p.own.number (acted progressed deed p))
+  pub idle : RuleStays lbts_rule m places now (slice_set places p.own.number (place_after progressed deed p))
   idle = kept p m places w now deed (record { words = leaves.registers; federation = ap (λ (v : LbtsView). v.federation) leaves.view; same = ap said leaves.view; time = ap time_of leaves.view }) changed
 
 pub writes_keep : WritesKeep lbts_rule
@@ -121,9 +121,9 @@ writes_keep p k part word lk free m places w =
     let me : ℕ = p.own.number in
     let none : m (Count me k) ≡ 0 = free_uncounted p.own.buffers m places w.floor me p w.here k lk free in
     let long : length p.own.stock.buffers ≡ p.own.buffers = buffers_wide p.own.buffers m places w.floor me p w.here in
-    idle p m places w (stored m (Part me k part) word) (Wrote k part word) (record {
+    idle p m places w (with_word m (Part me k part) word) (Wrote k part word) (record {
       view = refl;
-      owes = owes_still p.own.stock k (written part word (buffer_of p.own.stock k)) (omega arith) (written_owes part word (buffer_of p.own.stock k));
+      owes = owes_still p.own.stock k (buffer_after_write part word (buffer_of p.own.stock k)) (omega arith) (written_owes part word (buffer_of p.own.stock k));
       holds = refl;
       registers = λ r. refl;
       mail = λ j i u. refl;
@@ -136,9 +136,9 @@ count_looks_keep p k lk m places w =
     let me : ℕ = p.own.number in
     let free = m (Count me k) == 0 in
     let long : length p.own.stock.buffers ≡ p.own.buffers = buffers_wide p.own.buffers m places w.floor me p w.here in
-    idle p m places w (stored m (Count me k) (m (Count me k))) (SawFree k free) (record {
+    idle p m places w (with_word m (Count me k) (m (Count me k))) (SawFree k free) (record {
       view = refl;
-      owes = owes_still p.own.stock k (seen free (buffer_of p.own.stock k)) (omega arith) refl;
+      owes = owes_still p.own.stock k (buffer_after_look free (buffer_of p.own.stock k)) (omega arith) refl;
       holds = refl;
       registers = λ r. refl;
       mail = λ j i u. refl;
@@ -148,7 +148,7 @@ count_looks_keep p k lk m places w =
 
 pub stop_looks_keep : StopLooksKeep lbts_rule
 stop_looks_keep p m places w =
-    idle p m places w (stored m Stop (m Stop)) (SawStop (m Stop == 1)) (record {
+    idle p m places w (with_word m Stop (m Stop)) (SawStop (m Stop == 1)) (record {
       view = refl;
       owes = λ x. refl;
       holds = refl;
@@ -160,7 +160,7 @@ stop_looks_keep p m places w =
 
 pub stops_keep : StopsKeep lbts_rule
 stops_keep p m places w =
-    idle p m places w (stored m Stop 1) Stopped (record {
+    idle p m places w (with_word m Stop 1) Stopped (record {
       view = refl;
       owes = λ x. refl;
       holds = refl;

@@ -10,9 +10,9 @@ use lib.ListN.{get_elem?}
 use Rattle.kit_ground.specs.declared.address.Address.TheVariants.{Register}
 use Rattle.kit_ground.specs.declared.address.Reg.{Reg}
 use Rattle.kit_ground.specs.declared.place.Deed.TheVariants.{Looked}
-use Rattle.kit_ground.specs.declared.place.Own.{Own}
+use Rattle.kit_ground.specs.declared.place.SeatState.{SeatState}
 use Rattle.kit_ground.specs.declared.place.Place.{Place}
-use Rattle.kit_ground.specs.Memory.{Memory, stored}
+use Rattle.kit_ground.specs.Memory.{Memory, with_word}
 use Rattle.kit_ground.specs.Steps.{own_after}
 use Rattle.kit_ground.specs.Rules.{World}
 use Rattle.kit_ground.proofs.Memories.{stored_same}
@@ -86,14 +86,14 @@ bound_grows places j results s j_in rounds known is all =
     step false e = omega (arith, ap (λ t. cond t s.low (bound_in results)) e)
 
 -- what a seat knows of itself, but for its looks and its registers, which the rule does not read
-abbrev seat_of : Own → Own → Own
+abbrev seat_of : SeatState → SeatState → SeatState
 seat_of o x = record o { steps = x.steps; looks = x.looks; stops = x.stops; registers = x.registers; counts = x.counts; mail = x.mail; stop = x.stop; shown = x.shown; collects = x.collects }
 
 -- the place of one who has taken in other shares and knows other results
-abbrev learning : Place LbtsView → Own → List Share → List Share → Place LbtsView
+abbrev learning : Place LbtsView → SeatState → List Share → List Share → Place LbtsView
 learning p x taken results = record { own = seat_of p.own x; client = record p.client { taken = taken; results = results } }
 
-module _ (m : Memory) (places : List (Place LbtsView)) (j : ℕ) (p : Place LbtsView) (at : get_elem? places j ≡ some p) (rule : LbtsRule m places) (x : Own) where
+module _ (m : Memory) (places : List (Place LbtsView)) (j : ℕ) (p : Place LbtsView) (at : get_elem? places j ≡ some p) (rule : LbtsRule m places) (x : SeatState) where
   seated : Seated m places j p
   seated = rule.each j p at
 
@@ -220,7 +220,7 @@ module _ (p : Place LbtsView) (r : Reg) (m : Memory) (places : List (Place LbtsV
   abbrev word : ℕ
   word = m (Register r)
 
-  abbrev then : Own
+  abbrev then : SeatState
   then = own_after (Looked r word) p.own
 
   abbrev place : LbtsView → Place LbtsView
@@ -285,7 +285,7 @@ module _ (p : Place LbtsView) (r : Reg) (m : Memory) (places : List (Place LbtsV
 pub looks_keep : LooksKeep lbts_rule
 looks_keep p r m places w = record {
   client =
-      let same : m ≡ stored m (Register r) (m (Register r)) = sym (stored_same m (Register r)) in
+      let same : m ≡ with_word m (Register r) (m (Register r)) = sym (stored_same m (Register r)) in
       subst (λ x. LbtsRule x (slice_set places p.own.number (record { own = own_after (Looked r (m (Register r))) p.own; client = looked r (m (Register r)) p }))) same (look_kept p r m places w);
   guests = λ g sees. sees;
 }

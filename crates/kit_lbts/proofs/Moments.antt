@@ -8,9 +8,9 @@ use mathlib.Core.Option.{some}
 use lib.ListN.{get_elem?}
 use Rattle.kit_base.specs.declared.message.Message.{Message}
 use Rattle.kit_ground.specs.declared.place.Place.{Place}
-use Rattle.kit_ground.specs.declared.place.Stock.{Stock}
+use Rattle.kit_ground.specs.declared.place.SeatBuffers.{SeatBuffers}
 use Rattle.kit_ground.specs.Memory.{Memory}
-use Rattle.kit_ground.specs.Rules.{Floored, World}
+use Rattle.kit_ground.specs.Rules.{FloorHolds, World}
 use Rattle.kit_ground.proofs.Lists.{at_map_or, at_or}
 use Rattle.kit_ground.proofs.Sums.{sum_has}
 use Rattle.kit_model.specs.Journals.{now_of}
@@ -23,7 +23,7 @@ use Rattle.kit_parts.proofs.InOrder.{copies_are_transported_law}
 use Rattle.kit_rounds.specs.Channels.{IsUnreceived, is_copy, posts_of, receipts_of, same_stamp}
 use Rattle.kit_rounds.specs.Ledgers.{Ledger, Stamp, blank}
 use Rattle.kit_rules.specs.declared.table.Request.{Request}
-use Rattle.kit_rules.specs.Delivery.{due_time, pending}
+use Rattle.kit_rules.specs.Delivery.{due_time, pending_messages}
 use Rattle.kit_rules.specs.Federation.{IsFederation}
 use Rattle.kit_rules.specs.Parts.{Parts, effective_lookahead}
 use Rattle.kit_rules.specs.Simulation.{Block, Seat}
@@ -79,7 +79,7 @@ all_on_way A letter copies zero h = All-nil A
 all_on_way A letter copies (suc b) h =
     All-append A (messages_on_way letter copies b) (replicate (copies b) (letter b).message) (all_on_way A letter copies b (λ k lk. h k (omega (arith, lk)))) (all_repeated A (copies b) (letter b).message (h b (omega arith)))
 
-all_left : (A : Message → Type 0) (sending : Option ℕ) (s : Stock) (f : Parts) (i : ℕ) (ms : List Message) → All A ms → All A (left_of sending s f i ms)
+all_left : (A : Message → Type 0) (sending : Option ℕ) (s : SeatBuffers) (f : Parts) (i : ℕ) (ms : List Message) → All A ms → All A (left_of sending s f i ms)
 all_left A sending s f i [] h = All-nil A
 all_left A sending s f i (m ∷ ms) h = by (is_owed sending s f i m)
   where
@@ -147,7 +147,7 @@ module _ (p : P) (m : Memory) (places : List P) (w : World lbts_rule p m places)
   world_of j lt =
       let own = w.floor.each j (q j) (there j lt) in
       record {
-        floor = subst (λ (b : ℕ). Floored b m places) (sym own.buffers) w.floor;
+        floor = subst (λ (b : ℕ). FloorHolds b m places) (sym own.buffers) w.floor;
         client = w.client;
         here = subst (λ (k : ℕ). get_elem? places k ≡ some (q j)) (sym own.number) (there j lt);
       }
@@ -183,8 +183,8 @@ module _ (p : P) (m : Memory) (places : List P) (w : World lbts_rule p m places)
           let g : Parts = v.federation in
           let look : ℕ = effective_lookahead g j in
           let x : Bool = not (is_empty v.outbox) in
-          let due : ℕ = due_time r (pending g j (delivered v) (received v)) in
-          let due_is : due_of v ≡ due = ap (λ (o : Option Request). due_by o (messages_of v.queue)) e ∙ ap (due_time r) (seat j lt).queue.is ∙ due_ordered r (pending g j (delivered v) (received v)) in
+          let due : ℕ = due_time r (pending_messages g j (delivered v) (received v)) in
+          let due_is : due_of v ≡ due = ap (λ (o : Option Request). due_by o (messages_of v.queue)) e ∙ ap (due_time r) (seat j lt).queue.is ∙ due_ordered r (pending_messages g j (delivered v) (received v)) in
           let waits : is_waiting v ≡ x = ap (λ (o : Option Request). is_new o || not (is_empty v.outbox)) e in
           ap (λ (o : Option Request). promise_after g j x (received v) (done_of o (blocks_in j v))) e
           ∙ ap (seat_promise g j x (received v)) ((agrees j lt).seat r e)

@@ -16,9 +16,9 @@ use Rattle.kit_rules.specs.declared.table.Request.{Request}
 use Rattle.kit_rules.specs.Federation.{IsFederation}
 use Rattle.kit_rules.specs.Need.{is_outstanding, need_of}
 use Rattle.kit_rules.specs.Parts.{Parts}
-use Rattle.kit_rules.specs.Simulation.{Block, Seat, after_block, block, started_seat}
+use Rattle.kit_rules.specs.Simulation.{Block, Seat, after_block, block, seat_at_start}
 use Rattle.kit_rules.specs.declared.table.Trigger.TheVariants.{Start}
-use Rattle.kit_rules.specs.Step.{stepped}
+use Rattle.kit_rules.specs.Step.{state_after}
 use Rattle.kit_rules.proofs.Growth.{Grows, grows_by_step}
 use Rattle.kit_lbts.specs.declared.view.LbtsView.{LbtsView}
 use Rattle.kit_lbts.specs.Views.{due_of, time_of}
@@ -56,7 +56,7 @@ spent_at_grants p may m places w more =
     let sends = (w.client.floor.each me p w.here).sends in
     let grow : Grows me v.state after = grows_by_block f me d v.state due in
     let next : 16385 < after.next = omega (arith, grow.next, sends.next, ap length grow.sends, length-append v.state.sends grow.made, more) in
-    let seat = from_append f me (started_seat f me) done (b ∷ []) ∙ ap (seat_with f me b) (before p may.started may.posted may.early may.below may.loose m places (without p m places w) w.client.agree) in
+    let seat = from_append f me (seat_at_start f me) done (b ∷ []) ∙ ap (seat_with f me b) (before p may.started may.posted may.early may.below may.loose m places (without p m places w) w.client.agree) in
     spent_agrees_law f (sound p m places w) me (within p m places w) (done ++ b ∷ []) (next_blocks_agree p may m places w) (subst (λ (s : Seat). 16385 < s.state.next) (sym seat) next)
 
 pub outstanding_is_needed : OutstandingIsNeeded
@@ -78,5 +78,5 @@ spent_at_starts p none m places w more =
     let h : Agrees me v = w.client.agree me p w.here in
     let sends = (w.client.floor.each me p w.here).sends in
     let grow = grows_by_step f me Start 0 0 v.state in
-    let next : 16385 < (stepped f me Start 0 0 v.state).next = omega (arith, grow.next, sends.next, ap length grow.sends, length-append v.state.sends grow.made, more) in
-    spent_agrees_law f (sound p m places w) me (within p m places w) [] refl (subst (λ (s : State). 16385 < (stepped f me Start 0 0 s).next) (h.new none) next)
+    let next : 16385 < (state_after f me Start 0 0 v.state).next = omega (arith, grow.next, sends.next, ap length grow.sends, length-append v.state.sends grow.made, more) in
+    spent_agrees_law f (sound p m places w) me (within p m places w) [] refl (subst (λ (s : State). 16385 < (state_after f me Start 0 0 s).next) (h.new none) next)

@@ -7,8 +7,8 @@ use Rattle.std.proofs.lemmas.Nat.Bits.{bit_at-zero}
 use mathlib.Core.Option.{some}
 use lib.ListN.{get_elem?}
 use Rattle.kit_ground.specs.declared.place.Place.{Place}
-use Rattle.kit_ground.specs.Rules.{blank, places_at_first, own_at_first}
-use Rattle.kit_ground.specs.Steps.{buffer_of, untouched}
+use Rattle.kit_ground.specs.Rules.{zero_memory, places_at_first, own_at_first}
+use Rattle.kit_ground.specs.Steps.{buffer_of, fresh_buffer}
 use Rattle.kit_ground.proofs.Lists.{same_everywhere, at_or, at_inside, at_map_or}
 use Rattle.kit_ground.proofs.Sums.{sum_zero}
 use Rattle.kit_ground.proofs.Starts.{client_at_first, length_places_from}
@@ -18,7 +18,7 @@ use Rattle.kit_model.proofs.Lawful.{empty_is_lawful}
 use Rattle.std.proofs.lemmas.Option.{none-some}
 use Rattle.std.specs.List.{IsDistinct}
 use Rattle.std.specs.List.Sorted.{IsStrictlySortedBy}
-use Rattle.kit_rounds.specs.Ledgers.{Ledger, blank as no_ledger}
+use Rattle.kit_rounds.specs.Ledgers.{Ledger, zero_memory as no_ledger}
 use Rattle.kit_rounds.proofs.Opening.{new_ledgers_keep}
 use Rattle.kit_lbts.specs.declared.lbts.Opening.{Opening}
 use Rattle.kit_lbts.specs.declared.view.LbtsView.{LbtsView}
@@ -62,7 +62,7 @@ module _ (o : Opening) (sound : IsFederation o.federation.value) where
     each = λ j p at. subst (λ (q : Place LbtsView). (q.client.federation ≡ f) × (q.client.scheme ≡ o.scheme) × (q.own.buffers ≡ f.buffers)) (is_seat j p at) (refl, refl, refl);
   }
 
-  registers : (ledgers : ℕ → Ledger) (m j : ℕ) → Registers blank m ledgers j (seat j)
+  registers : (ledgers : ℕ → Ledger) (m j : ℕ) → Registers zero_memory m ledgers j (seat j)
   registers ledgers m j = record { now = λ s lt shown. inl refl; before = λ s lt shown. refl; clock = refl; lows = All-nil _ }
 
   learnt : (ledgers : ℕ → Ledger) (m j : ℕ) → Learnt m ledgers j (seat j)
@@ -75,9 +75,9 @@ module _ (o : Opening) (sound : IsFederation o.federation.value) where
   }
 
   none_owed : (j k : ℕ) → (buffer_of (seat j).own.stock k).to_post ≡ 0
-  none_owed j k = ap (λ (b : _). b.to_post) (same_everywhere f.buffers k untouched)
+  none_owed j k = ap (λ (b : _). b.to_post) (same_everywhere f.buffers k fresh_buffer)
 
-  letters : (j : ℕ) → Letters blank j (seat j)
+  letters : (j : ℕ) → Letters zero_memory j (seat j)
   letters j = record {
     sized = length-replicate f.buffers None;
     counted = λ k lt on. absurd (omega (arith, on));
@@ -125,9 +125,9 @@ module _ (o : Opening) (sound : IsFederation o.federation.value) where
     new = λ none. (refl, refl, refl, refl, refl);
   }
 
-  ways : (i j : ℕ) → WayBetween blank i j (seat i) (seat j)
+  ways : (i j : ℕ) → WayBetween zero_memory i j (seat i) (seat j)
   ways i j = record {
-    copies = λ t. sym (ap (λ (x : ℕ). 0 + x) (sum_zero (λ k. cond (t (letter_in (seat i).client k)) (marked blank i j k + 0) 0) f.buffers (λ k lk. none (t (letter_in (seat i).client k)) (marked blank i j k) (bit_at-zero (k % 64)))));
+    copies = λ t. sym (ap (λ (x : ℕ). 0 + x) (sum_zero (λ k. cond (t (letter_in (seat i).client k)) (marked zero_memory i j k + 0) 0) f.buffers (λ k lk. none (t (letter_in (seat i).client k)) (marked zero_memory i j k) (bit_at-zero (k % 64)))));
     heads = All-nil _;
     lies = All-nil _;
   }
@@ -149,12 +149,12 @@ module _ (o : Opening) (sound : IsFederation o.federation.value) where
         (λ j lt. ap (λ (l : Ledger). l.received) (ledger_at j lt)) (λ j lt. ap (λ (l : Ledger). l.contributions) (ledger_at j lt)),
   )
 
-  pub opens : LbtsRule blank places
+  pub opens : LbtsRule zero_memory places
   opens = record {
     common = common;
     each = λ j p at.
         let lt : j < n = omega (arith, at_inside places j p at, many) in
-        subst (λ q. Seated blank places j q) (is_seat j p at)
+        subst (λ q. Seated zero_memory places j q) (is_seat j p at)
         (record {
           registers = registers (ledgers_of places) (length places) j;
           learnt = learnt (ledgers_of places) (length places) j;
@@ -165,7 +165,7 @@ module _ (o : Opening) (sound : IsFederation o.federation.value) where
           granting = granting j lt;
           sends = sends j;
         });
-    ways = λ i j p q here there. subst₂ (λ x y. WayBetween blank i j x y) (is_seat i p here) (is_seat j q there) (ways i j);
+    ways = λ i j p q here there. subst₂ (λ x y. WayBetween zero_memory i j x y) (is_seat i p here) (is_seat j q there) (ways i j);
     rounds = rounds;
   }
 

@@ -12,13 +12,13 @@ use Rattle.kit_ground.specs.declared.address.Reg.{Reg}
 use Rattle.kit_ground.specs.declared.place.Deed.{Deed}
 use Rattle.kit_ground.specs.declared.place.Deed.TheVariants.{Looked, Published, Stopped, SawStop, SawFree, Wrote, Charged, PostedTo, Collected, ReadPart, Released}
 use Rattle.kit_ground.specs.declared.place.Place.{Place}
-use Rattle.kit_ground.specs.Steps.{acted}
+use Rattle.kit_ground.specs.Steps.{place_after}
 use Rattle.kit_ground.proofs.PlaceSteps.{each_after}
 use Rattle.kit_model.specs.declared.journal.JournalEntry.TheVariants.{Received}
 use Rattle.kit_model.specs.Journals.{now_of}
 use Rattle.kit_model.specs.Shares.{share_of}
 use Rattle.kit_model.proofs.Lawful.{others_keep_the_time}
-use Rattle.kit_queue.specs.Entries.{put_entry, settled}
+use Rattle.kit_queue.specs.Entries.{put_entry, without_buffer}
 use Rattle.kit_rules.specs.declared.table.Request.{Request}
 use Rattle.kit_lbts.specs.declared.view.InHand.{InHand}
 use Rattle.kit_lbts.specs.declared.view.LbtsView.{LbtsView}
@@ -68,7 +68,7 @@ contributed_tells p = by p.client.scheme
 put_down_tells : (i k : ℕ) (v : LbtsView) → TellsTheSame v (put_down i k v)
 put_down_tells i k v = by (list_any (is_spent i k) v.spent)
   where
-    by : (b : Bool) → TellsTheSame v (cond b (record v { spent = filter (λ s. not (is_spent i k s)) v.spent }) (record v { queue = map (λ e. cond (waits_in i k e) (settled e) e) v.queue }))
+    by : (b : Bool) → TellsTheSame v (cond b (record v { spent = filter (λ s. not (is_spent i k s)) v.spent }) (record v { queue = map (λ e. cond (waits_in i k e) (without_buffer e) e) v.queue }))
     by true = record { federation = refl; state = refl; request = refl; lines = λ j. refl; blocks = λ j. refl; time = refl; delivered = refl }
     by false = record { federation = refl; state = refl; request = refl; lines = λ j. refl; blocks = λ j. refl; time = refl; delivered = refl }
 
@@ -157,7 +157,7 @@ others_agree p a deed no_grant keeps m places w =
     record {
       client = record {
         floor = k.client;
-        agree = each_after (λ i (r : P). Agrees i r.client) places me (acted progressed (deed (m a)) p) now (λ i r other at. w.client.agree i r at);
+        agree = each_after (λ i (r : P). Agrees i r.client) places me (place_after progressed (deed (m a)) p) now (λ i r other at. w.client.agree i r at);
       };
       guests = λ g sees. tt;
     }

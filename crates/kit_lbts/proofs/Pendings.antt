@@ -15,10 +15,10 @@ use Rattle.kit_base.specs.Order.{in_order, is_before, key_cmp, put}
 use Rattle.kit_base.proofs.Lists.{all_filter, each_weaker}
 use Rattle.kit_base.proofs.Orders.{all_put}
 use Rattle.kit_queue.specs.declared.entry.Entry.{Entry}
-use Rattle.kit_queue.specs.Entries.{AreNumberedApart, entry_of, is_numbered, messages_of, put_entry, shares_number, without}
+use Rattle.kit_queue.specs.Entries.{AreNumberedApart, entry_of, is_numbered, messages_of, put_entry, shares_number, entries_without}
 use Rattle.kit_queue.proofs.Keys.{key_cmp_total}
 use Rattle.kit_rules.specs.Parts.{Parts}
-use Rattle.kit_rules.specs.Delivery.{has_bit, is_pending, is_same, is_transported, pending, receivers_of, retracts}
+use Rattle.kit_rules.specs.Delivery.{has_bit, is_pending, is_same, is_transported, pending_messages, receivers_of, retracts}
 use Rattle.kit_rules.specs.Step.{is_event}
 use Rattle.kit_lbts.specs.Views.{is_spent}
 use Rattle.kit_lbts.specs.Progress.{spent, spent_buffer, spent_entry}
@@ -40,7 +40,7 @@ module _ (f : Parts) (j : ℕ) (got sent : List Message) (m : Message) where
   event_aside : is_event m.kind ≡ true → (x : Message) → is_pending f j got (sent ++ m ∷ []) x ≡ is_pending f j got sent x
   event_aside e x = ap (λ (b : Bool). front x && not b) (retracted_more x ∙ (ap (λ (b : Bool). list_any (retracts x) sent || (not b && m.sender == x.sender && m.value == x.number)) e ∙ or_false (list_any (retracts x) sent)))
 
-  pub pending_event : is_event m.kind ≡ true → pending f j got (sent ++ m ∷ []) ≡ pending f j got sent ++ cond (is_pending f j got sent m) (m ∷ []) []
+  pub pending_event : is_event m.kind ≡ true → pending_messages f j got (sent ++ m ∷ []) ≡ pending_messages f j got sent ++ cond (is_pending f j got sent m) (m ∷ []) []
   pending_event e =
       filter_agree (is_pending f j got (sent ++ m ∷ [])) (is_pending f j got sent) (event_aside e) (sent ++ m ∷ [])
       ∙ filter-append (is_pending f j got sent) sent (m ∷ [])
@@ -53,7 +53,7 @@ module _ (f : Parts) (j : ℕ) (got sent : List Message) (m : Message) where
       apart true true c = refl
       apart true false c = refl
 
-  pub pending_retraction : is_event m.kind ≡ false → pending f j got (sent ++ m ∷ []) ≡ filter (λ x. not (retracts x m)) (pending f j got sent)
+  pub pending_retraction : is_event m.kind ≡ false → pending_messages f j got (sent ++ m ∷ []) ≡ filter (λ x. not (retracts x m)) (pending_messages f j got sent)
   pending_retraction e =
       filter_agree (is_pending f j got (sent ++ m ∷ [])) (λ x. is_pending f j got sent x && not (retracts x m)) retraction_aside (sent ++ m ∷ [])
       ∙ (filter-append (λ x. is_pending f j got sent x && not (retracts x m)) sent (m ∷ [])
@@ -275,9 +275,9 @@ pub in_order_push : (ms : List Message) (m : Message) → in_order (ms ++ m ∷ 
 in_order_push ms m = fold_push (λ (sorted : List Message) (x : Message). put x sorted) [] ms m
 
 -- ---- an entry is taken out
-without_none : (i n : ℕ) (es : List Entry) → AllByRecursion (λ y. is_numbered i n y ≡ false) (messages_of es) → without i n es ≡ es
+without_none : (i n : ℕ) (es : List Entry) → AllByRecursion (λ y. is_numbered i n y ≡ false) (messages_of es) → entries_without i n es ≡ es
 without_none i n [] h = refl
-without_none i n (e ∷ es) h = ap (λ (b : Bool). cond (not b) (e ∷ without i n es) (without i n es)) h.0 ∙ ap (λ l. e ∷ l) (without_none i n es h.1)
+without_none i n (e ∷ es) h = ap (λ (b : Bool). cond (not b) (e ∷ entries_without i n es) (entries_without i n es)) h.0 ∙ ap (λ l. e ∷ l) (without_none i n es h.1)
 
 spent_waits : (a c i : ℕ) (e : Entry) → e.message.sender ≡ i → count_by (is_spent a c) (spent_buffer i e.buffer) ≡ one_if (waits_in a c e)
 spent_waits a c i e from = by e.buffer
@@ -290,24 +290,24 @@ spent_waits a c i e from = by e.buffer
         omega arith
 
 pub taken_out : (a c i n : ℕ) (es : List Entry) → AreNumberedApart es
-    → count_by (waits_in a c) (without i n es) + count_by (is_spent a c) (spent_entry i (entry_of i n es)) ≡ count_by (waits_in a c) es
+    → count_by (waits_in a c) (entries_without i n es) + count_by (is_spent a c) (spent_entry i (entry_of i n es)) ≡ count_by (waits_in a c) es
 unfolding IsDistinct
 taken_out a c i n [] h = omega arith
 taken_out a c i n (e ∷ es) h = by (is_numbered i n e.message) refl (taken_out a c i n es h.1)
   where
     by : (b : Bool) → is_numbered i n e.message ≡ b
-        → count_by (waits_in a c) (without i n es) + count_by (is_spent a c) (spent_entry i (entry_of i n es)) ≡ count_by (waits_in a c) es
-        → count_by (waits_in a c) (cond (not b) (e ∷ without i n es) (without i n es)) + count_by (is_spent a c) (spent_entry i (cond b (Some e) (entry_of i n es))) ≡ count_by (waits_in a c) (e ∷ es)
+        → count_by (waits_in a c) (entries_without i n es) + count_by (is_spent a c) (spent_entry i (entry_of i n es)) ≡ count_by (waits_in a c) es
+        → count_by (waits_in a c) (cond (not b) (e ∷ entries_without i n es) (entries_without i n es)) + count_by (is_spent a c) (spent_entry i (cond b (Some e) (entry_of i n es))) ≡ count_by (waits_in a c) (e ∷ es)
     by true is r =
         let t = and_parts (e.message.sender == i) (e.message.number == n) is in
         let from : e.message.sender ≡ i = eqb-true e.message.sender i t.0 in
         let number : e.message.number ≡ n = eqb-true e.message.number n t.1 in
-        let rest : without i n es ≡ es = without_none i n es (each_weaker (λ y. shares_number e.message y ≡ false) (λ y. is_numbered i n y ≡ false) (messages_of es) (λ y d. (λ x. is_numbered (sym from x) (sym number x) y) ∙ d) h.0) in
+        let rest : entries_without i n es ≡ es = without_none i n es (each_weaker (λ y. shares_number e.message y ≡ false) (λ y. is_numbered i n y ≡ false) (messages_of es) (λ y d. (λ x. is_numbered (sym from x) (sym number x) y) ∙ d) h.0) in
         let s = spent_waits a c i e from in
         let d = count_cons (waits_in a c) e es in
         let l = ap (count_by (waits_in a c)) rest in
         omega arith
-    by false is r = let d = count_cons (waits_in a c) e es in let g = count_cons (waits_in a c) e (without i n es) in omega arith
+    by false is r = let d = count_cons (waits_in a c) e es in let g = count_cons (waits_in a c) e (entries_without i n es) in omega arith
 
 -- ---- tests
 pub and_not_false : (a b : Bool) → b ≡ false → (a && not b) ≡ false → a ≡ false

@@ -15,7 +15,7 @@ use Rattle.kit_model.specs.declared.journal.JournalEntry.TheVariants.{Received}
 use Rattle.kit_model.specs.Journals.{now_of}
 use Rattle.kit_model.proofs.Lawful.{others_keep_the_time}
 use Rattle.kit_queue.specs.declared.entry.Entry.{Entry}
-use Rattle.kit_queue.specs.Entries.{messages_of, put_entry, without, is_numbered}
+use Rattle.kit_queue.specs.Entries.{messages_of, put_entry, entries_without, is_numbered}
 use Rattle.kit_rules.specs.declared.table.Request.{Request}
 use Rattle.kit_rules.specs.declared.table.Request.TheVariants.{Tar, Ner}
 use Rattle.kit_rounds.specs.Ledgers.{Ledger}
@@ -115,7 +115,7 @@ module _ (p : Place LbtsView) (i k body : ℕ) where
   by_kind : (kind : Kind) → Receives i (stamp_read p i k body) (ledger_of p) (with_view (taken_in kind i k m then))
   by_kind Event = by_event (list_any (is_orphan i m.number) then.orphans)
   by_kind Retraction =
-      received (without i m.value v.queue) (taken_in Retraction i k m then)
+      received (entries_without i m.value v.queue) (taken_in Retraction i k m then)
       (λ x le h. all_filter (λ (e : Entry). x ≤ e.message.time) (λ e. not (is_numbered i m.value e.message)) v.queue h) refl
 
   pub receipt_is : Receives i (stamp_read p i k body) (ledger_of p) (ledger_of (after (ReadPart i k 1 body) p))

@@ -14,14 +14,14 @@ use Rattle.kit_ground.specs.declared.address.Address.TheVariants.{Count}
 use Rattle.kit_ground.specs.declared.place.Deed.{Deed}
 use Rattle.kit_ground.specs.declared.place.Deed.TheVariants.{Released}
 use Rattle.kit_ground.specs.declared.place.Place.{Place}
-use Rattle.kit_ground.specs.Memory.{Memory, stored}
-use Rattle.kit_ground.specs.Rules.{Kept, World}
-use Rattle.kit_ground.specs.Steps.{acted, becomes, own_after}
+use Rattle.kit_ground.specs.Memory.{Memory, with_word}
+use Rattle.kit_ground.specs.Rules.{RuleStays, World}
+use Rattle.kit_ground.specs.Steps.{place_after, becomes, own_after}
 use Rattle.kit_ground.proofs.Bits.{flipped_else, flipped_here}
 use Rattle.kit_ground.proofs.Memories.{count_else}
 use Rattle.kit_ground.proofs.PlaceFacts.{held_counted, holds_wide}
 use Rattle.kit_queue.specs.declared.entry.Entry.{Entry}
-use Rattle.kit_queue.specs.Entries.{messages_of, settled, shares_number}
+use Rattle.kit_queue.specs.Entries.{messages_of, without_buffer, shares_number}
 use Rattle.kit_rounds.specs.Steps.{Rises}
 use Rattle.kit_lbts.specs.declared.view.Filled.{Filled}
 use Rattle.kit_lbts.specs.declared.view.Spent.{Spent}
@@ -63,10 +63,10 @@ module _ (p : P) (i k : ℕ) (li : i < p.own.federates) (lk : k < p.own.buffers)
   deed = Released i k
 
   abbrev now : Memory
-  now = stored m (Count i k) (becomes (Released i k) (m (Count i k)))
+  now = with_word m (Count i k) (becomes (Released i k) (m (Count i k)))
 
   abbrev q : P
-  q = acted progressed (Released i k) p
+  q = place_after progressed (Released i k) p
 
   abbrev with : LbtsView → P
   with v = record { own = own_after (Released i k) p.own; client = v }
@@ -175,7 +175,7 @@ module _ (p : P) (i k : ℕ) (li : i < p.own.federates) (lk : k < p.own.buffers)
         subst (λ (n : ℕ). Way n (marked now a me) a me r.client q.client) (sym b)
         (way_still ta.before.own.buffers (marked m a me) (marked now a me) a me ta.before.client then r.client q.client (λ x lx. refl) s (ap got left.is) new)
 
-    pub release : Kept lbts_rule m places now (slice_set places p.own.number (acted progressed (Released i k) p))
+    pub release : RuleStays lbts_rule m places now (slice_set places p.own.number (place_after progressed (Released i k) p))
     release = kept p m places w now deed (record { words = λ r. refl; federation = ap (λ (v : LbtsView). v.federation) left.is; same = ap said left.is; time = ap time_of left.is }) (record {
       letters = subst (λ (v : LbtsView). Letters now me (with v)) (sym left.is) letters;
       others = λ a r other at. letters_aside m now a r (λ x lx. counted a x) (λ x y lx on. refl) (w.client.each a r at).letters;
@@ -237,7 +237,7 @@ module _ (p : P) (i k : ℕ) (li : i < p.own.federates) (lk : k < p.own.buffers)
           (λ (e : Entry). (give_up i k e).buffer ≡ None → (give_up i k e).message.time < bound_of p.client) (λ e t. one e (waits_in i k e) refl t) p.client.queue h)
         where
           one : (e : Entry) (b : Bool) → waits_in i k e ≡ b → (waits_in i k e ≡ true → e.message.time < bound_of p.client) × (e.buffer ≡ None → e.message.time < bound_of p.client)
-              → (cond b (settled e) e).buffer ≡ None → (cond b (settled e) e).message.time < bound_of p.client
+              → (cond b (without_buffer e) e).buffer ≡ None → (cond b (without_buffer e) e).message.time < bound_of p.client
           one e true h t is = t.0 h
           one e false h t is = t.1 is
 
@@ -250,5 +250,5 @@ releases_keep p i k li lk held may m places w = ⊎_elim
     (cases_Bool (list_any (is_spent i k) p.client.spent)))
     may
   where
-    by_spent : list_any (is_spent i k) p.client.spent ≡ true → Kept lbts_rule m places (stored m (Count i k) (becomes (Released i k) (m (Count i k)))) (slice_set places p.own.number (acted progressed (Released i k) p))
+    by_spent : list_any (is_spent i k) p.client.spent ≡ true → RuleStays lbts_rule m places (with_word m (Count i k) (becomes (Released i k) (m (Count i k)))) (slice_set places p.own.number (place_after progressed (Released i k) p))
     by_spent e = release p i k li lk held m places w p.client.queue (filter (λ s. not (is_spent i k s)) p.client.spent) (spent_left p i k li lk held m places w e)

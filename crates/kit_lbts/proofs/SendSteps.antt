@@ -18,10 +18,10 @@ use Rattle.kit_ground.specs.declared.place.Buffer.{Buffer}
 use Rattle.kit_ground.specs.declared.place.Deed.{Deed}
 use Rattle.kit_ground.specs.declared.place.Deed.TheVariants.{PostedTo}
 use Rattle.kit_ground.specs.declared.place.Place.{Place}
-use Rattle.kit_ground.specs.declared.place.Stock.{Stock}
-use Rattle.kit_ground.specs.Memory.{Memory, stored}
-use Rattle.kit_ground.specs.Rules.{Kept, World}
-use Rattle.kit_ground.specs.Steps.{acted, becomes, buffer_of, posted_to as also_posted}
+use Rattle.kit_ground.specs.declared.place.SeatBuffers.{SeatBuffers}
+use Rattle.kit_ground.specs.Memory.{Memory, with_word}
+use Rattle.kit_ground.specs.Rules.{RuleStays, World}
+use Rattle.kit_ground.specs.Steps.{place_after, becomes, buffer_of, buffer_after_post as also_posted}
 use Rattle.kit_ground.proofs.Bits.{flipped_else, flipped_here, joined_else, joined_here}
 use Rattle.kit_ground.proofs.Lists.{at_inside}
 use Rattle.kit_ground.proofs.MailWords.{same_buffer}
@@ -37,7 +37,7 @@ use Rattle.kit_lbts.specs.Promises.{added_of, copy_posted}
 use Rattle.kit_lbts.specs.Letters.{IsSending, Letters, letter_in}
 use Rattle.kit_lbts.specs.LedgerLaws.{IsPostable}
 use Rattle.kit_lbts.specs.Seats.{Sends, left_of}
-use Rattle.kit_lbts.specs.Ways.{Way, WayBetween, copies_on_way, marked, posted_to}
+use Rattle.kit_lbts.specs.Ways.{Way, WayBetween, copies_on_way, marked, buffer_after_post}
 use Rattle.kit_lbts.specs.Progress.{progressed}
 use Rattle.kit_lbts.specs.Rule.{RoundsHold, lbts_rule}
 use Rattle.kit_lbts.specs.MessageLaws.{PostsKeep}
@@ -70,7 +70,7 @@ all_left A true xs h = All-drop A 1 xs h
 all_left A false xs h = h
 
 -- where no buffer is being posted, all is left
-pub left_none : (s : Stock) (f : Parts) (i : ℕ) (ms : List Message) → left_of None s f i ms ≡ filter (is_for f i) ms
+pub left_none : (s : SeatBuffers) (f : Parts) (i : ℕ) (ms : List Message) → left_of None s f i ms ≡ filter (is_for f i) ms
 left_none s f i [] = refl
 left_none s f i (m ∷ ms) = refl
 
@@ -92,10 +92,10 @@ module _ (p : P) (k j : ℕ) (lk : k < p.own.buffers) (lj : j < p.own.federates)
   deed = PostedTo k j
 
   abbrev now : Memory
-  now = stored m (Mail j p.own.number (k / 64)) (becomes (PostedTo k j) (m (Mail j p.own.number (k / 64))))
+  now = with_word m (Mail j p.own.number (k / 64)) (becomes (PostedTo k j) (m (Mail j p.own.number (k / 64))))
 
   abbrev q : P
-  q = acted progressed (PostedTo k j) p
+  q = place_after progressed (PostedTo k j) p
 
   some_owed : mask ≢ 0
   some_owed e = let z : bit_at mask j ≡ 0 = ap (λ (x : ℕ). bit_at x j) e ∙ bit_at-zero j in let o = owed in absurd (omega arith)
@@ -179,7 +179,7 @@ module _ (p : P) (k j : ℕ) (lk : k < p.own.buffers) (lj : j < p.own.federates)
   left_more i e = λ t. left_of (sending_same e t) q.own.stock f i ((outbox_same e ∙ before.outbox) t)
 
   -- the message goes to j where the mask has its bit
-  by_bit : (i : ℕ) (s : Stock) (b : Bool) → has_bit (buffer_of s k).to_post i ≡ b → left_of (Some k) s f i (before.first ∷ before.rest) ≡ cond b (before.first ∷ filter (is_for f i) before.rest) (filter (is_for f i) before.rest)
+  by_bit : (i : ℕ) (s : SeatBuffers) (b : Bool) → has_bit (buffer_of s k).to_post i ≡ b → left_of (Some k) s f i (before.first ∷ before.rest) ≡ cond b (before.first ∷ filter (is_for f i) before.rest) (filter (is_for f i) before.rest)
   by_bit i s b e = ap (λ (c : Bool). cond c (before.first ∷ filter (is_for f i) before.rest) (filter (is_for f i) before.rest)) e
 
   bit_owed : has_bit mask j ≡ true
@@ -207,16 +207,16 @@ module _ (p : P) (k j : ℕ) (lk : k < p.own.buffers) (lj : j < p.own.federates)
   abbrev made : Posting
   made = record { to = j; filled = letter_in p.client k }
 
-  posted_push : (i : ℕ) → posted_to i q.client ≡ posted_to i p.client ++ map (λ (x : Posting). x.filled) (cond (j == i) (made ∷ []) [])
+  posted_push : (i : ℕ) → buffer_after_post i q.client ≡ buffer_after_post i p.client ++ map (λ (x : Posting). x.filled) (cond (j == i) (made ∷ []) [])
   posted_push i =
       ap (map (λ (x : Posting). x.filled)) (filter-append (λ (x : Posting). x.to == i) p.client.posted (made ∷ []))
       ∙ map-append (λ (x : Posting). x.filled) (filter (λ (x : Posting). x.to == i) p.client.posted) (cond (j == i) (made ∷ []) [])
 
-  posted_here : posted_to j q.client ≡ posted_to j p.client ++ letter_in p.client k ∷ []
-  posted_here = posted_push j ∙ ap (λ (b : Bool). posted_to j p.client ++ map (λ (x : Posting). x.filled) (cond b (made ∷ []) [])) (eq-eqb j j refl)
+  posted_here : buffer_after_post j q.client ≡ buffer_after_post j p.client ++ letter_in p.client k ∷ []
+  posted_here = posted_push j ∙ ap (λ (b : Bool). buffer_after_post j p.client ++ map (λ (x : Posting). x.filled) (cond b (made ∷ []) [])) (eq-eqb j j refl)
 
-  posted_there : (i : ℕ) → i ≢ j → posted_to i q.client ≡ posted_to i p.client
-  posted_there i other = posted_push i ∙ (ap (λ (b : Bool). posted_to i p.client ++ map (λ (x : Posting). x.filled) (cond b (made ∷ []) [])) (ne_eqb j i (λ e. other (sym e))) ∙ append-nil (posted_to i p.client))
+  posted_there : (i : ℕ) → i ≢ j → buffer_after_post i q.client ≡ buffer_after_post i p.client
+  posted_there i other = posted_push i ∙ (ap (λ (b : Bool). buffer_after_post i p.client ++ map (λ (x : Posting). x.filled) (cond b (made ∷ []) [])) (ne_eqb j i (λ e. other (sym e))) ∙ append-nil (buffer_after_post i p.client))
 
   abbrev messages : List Filled → List Message
   messages l = map (λ (x : Filled). x.message) l
@@ -225,17 +225,17 @@ module _ (p : P) (k j : ℕ) (lk : k < p.own.buffers) (lj : j < p.own.federates)
   message_is = ap (λ (x : Filled). x.message) before.filled
 
   abbrev Sent : ℕ → Type 0
-  Sent i = filter (is_for f i) (transported_of q.client) ≡ messages (posted_to i q.client) ++ left_of q.client.sending q.own.stock f i q.client.outbox
+  Sent i = filter (is_for f i) (transported_of q.client) ≡ messages (buffer_after_post i q.client) ++ left_of q.client.sending q.own.stock f i q.client.outbox
 
   sent_here : Sent j
   sent_here =
       let old = (mine p m places w now deed).sends in
       let left = left_of q.client.sending q.own.stock f j q.client.outbox in
-      old.each j lj ∙ (ap (λ (l : List Message). messages (posted_to j p.client) ++ l) left_here
-      ∙ (push_assoc (messages (posted_to j p.client)) before.first left
+      old.each j lj ∙ (ap (λ (l : List Message). messages (buffer_after_post j p.client) ++ l) left_here
+      ∙ (push_assoc (messages (buffer_after_post j p.client)) before.first left
       ∙ ap (λ (l : List Message). l ++ left) (sym (ap messages posted_here
-      ∙ (map-append (λ (x : Filled). x.message) (posted_to j p.client) (letter_in p.client k ∷ [])
-      ∙ ap (λ (x : Message). messages (posted_to j p.client) ++ x ∷ []) message_is)))))
+      ∙ (map-append (λ (x : Filled). x.message) (buffer_after_post j p.client) (letter_in p.client k ∷ [])
+      ∙ ap (λ (x : Message). messages (buffer_after_post j p.client) ++ x ∷ []) message_is)))))
 
   sent_there : (i : ℕ) → i < p.own.federates → i ≢ j → Sent i
   sent_there i li other =
@@ -321,7 +321,7 @@ module _ (p : P) (k j : ℕ) (lk : k < p.own.buffers) (lj : j < p.own.federates)
   rounds = posts_keep_rounds places me p q (copy_posted made) w.here w.client.rounds
       (posts_are (length places) p k j (letter_in p.client k) (subst (λ (n : ℕ). j < n) (w.floor.each me p w.here).federates lj) postable)
 
-  pub post : Kept lbts_rule m places now (slice_set places p.own.number (acted progressed (PostedTo k j) p))
+  pub post : RuleStays lbts_rule m places now (slice_set places p.own.number (place_after progressed (PostedTo k j) p))
   post = kept p m places w now deed (record { words = λ r. refl; federation = refl; same = refl; time = refl }) (record {
     letters = letters;
     others = λ i r other at. letters_aside m now i r (λ x lx on. on) (λ x y lx on. refl) (w.client.each i r at).letters;

@@ -8,7 +8,7 @@ use Rattle.std.proofs.lemmas.Bool.{and_parts, cases_Bool, false_from_ne_true, lt
 use Rattle.std.proofs.lemmas.List.Elements.{All-contains, All-cons, Contains-get_or}
 use Rattle.std.proofs.lemmas.Nat.Bits.{bit_at-lt}
 use Rattle.kit_queue.specs.declared.entry.Entry.{Entry}
-use Rattle.kit_queue.specs.Entries.{buffer_of, first_buffer, is_settleable, settled, settled_first}
+use Rattle.kit_queue.specs.Entries.{buffer_of, first_buffer, is_settleable, without_buffer, with_first_settled}
 use Rattle.kit_lbts.specs.Views.{is_in_hand, is_spent}
 use Rattle.kit_lbts.specs.Promises.{bound_of}
 use Rattle.kit_lbts.specs.MessageLaws.{SettlesTell}
@@ -51,11 +51,11 @@ kept_all i k (x ∷ xs) h = ⊎_elim
     (λ (e : waits_in i k x ≡ false).
     let c = count_cons (waits_in i k) x xs in
     let z : count_by (waits_in i k) xs ≡ 0 = omega arith in
-    (λ t. cond (e t) (settled x) x ∷ kept_all i k xs z t))
+    (λ t. cond (e t) (without_buffer x) x ∷ kept_all i k xs z t))
     (cases_Bool (waits_in i k x))
 
 -- the one that waits in it is the first that can be settled
-settles_one : (below i k : ℕ) (es : List Entry) (e : Entry) → IsFirst below i k es e → count_by (waits_in i k) es ≤ 1 → map (give_up i k) es ≡ settled_first below es
+settles_one : (below i k : ℕ) (es : List Entry) (e : Entry) → IsFirst below i k es e → count_by (waits_in i k) es ≤ 1 → map (give_up i k) es ≡ with_first_settled below es
 settles_one below i k [] e h few = absurd (let f = h.found in cc)
 settles_one below i k (x ∷ xs) e h few = ⊎_elim
     (λ (yes_ : is_settleable below x ≡ true).
@@ -64,15 +64,15 @@ settles_one below i k (x ∷ xs) e h few = ⊎_elim
     let c = count_cons (waits_in i k) x xs in
     let o : one_if (waits_in i k x) ≡ 1 = ap one_if waits in
     let z : count_by (waits_in i k) xs ≡ 0 = omega arith in
-    (λ t. cond (waits t) (settled x) x ∷ kept_all i k xs z t) ∙ ap (λ (b : Bool). cond b (settled x ∷ xs) (x ∷ settled_first below xs)) (sym yes_))
+    (λ t. cond (waits t) (without_buffer x) x ∷ kept_all i k xs z t) ∙ ap (λ (b : Bool). cond b (without_buffer x ∷ xs) (x ∷ with_first_settled below xs)) (sym yes_))
     (λ (not_ : is_settleable below x ≡ false).
     let rest : find (is_settleable below) xs ≡ Some e = sym (ap (λ (b : Bool). cond b (Some x) (find (is_settleable below) xs)) not_) ∙ h.found in
     let there : 0 < count_by (waits_in i k) xs = count_has (waits_in i k) xs e (found_passes (is_settleable below) xs e rest).1 (waits_here i k e h.sender h.buffer) in
     let c = count_cons (waits_in i k) x xs in
     let past : waits_in i k x ≡ false = false_from_ne_true (waits_in i k x) (λ g. let o : one_if (waits_in i k x) ≡ 1 = ap one_if g in omega arith) in
     let fewer : count_by (waits_in i k) xs ≤ 1 = omega arith in
-    (λ t. cond (past t) (settled x) x ∷ settles_one below i k xs e (record { found = rest; sender = h.sender; buffer = h.buffer; time = h.time }) fewer t)
-    ∙ ap (λ (b : Bool). cond b (settled x ∷ xs) (x ∷ settled_first below xs)) (sym not_))
+    (λ t. cond (past t) (without_buffer x) x ∷ settles_one below i k xs e (record { found = rest; sender = h.sender; buffer = h.buffer; time = h.time }) fewer t)
+    ∙ ap (λ (b : Bool). cond b (without_buffer x ∷ xs) (x ∷ with_first_settled below xs)) (sym not_))
     (cases_Bool (is_settleable below x))
   where
     some_is : {a c : Entry} → Some a ≡ Some c → a ≡ c

@@ -8,11 +8,11 @@ use mathlib.Core.Option.{some}
 use lib.ListN.{get_elem?}
 use Rattle.atomic_table.proofs.Lists.{at_map, set_again, set_here}
 use Rattle.kit_base.specs.declared.message.Message.{Message}
-use Rattle.kit_ground.specs.declared.place.Own.{Own}
+use Rattle.kit_ground.specs.declared.place.SeatState.{SeatState}
 use Rattle.kit_ground.specs.declared.place.Place.{Place}
-use Rattle.kit_ground.specs.declared.place.Stock.{Stock}
+use Rattle.kit_ground.specs.declared.place.SeatBuffers.{SeatBuffers}
 use Rattle.kit_ground.specs.Memory.{Memory}
-use Rattle.kit_ground.specs.Rules.{Floored, OwnFits, World, stock_of}
+use Rattle.kit_ground.specs.Rules.{FloorHolds, OwnFits, World, stock_of}
 use Rattle.kit_ground.specs.Sets.{Pool}
 use Rattle.kit_ground.proofs.Lists.{at_inside}
 use Rattle.kit_rules.specs.declared.scene.State.{State}
@@ -22,7 +22,7 @@ use Rattle.kit_rules.specs.Delivery.{is_transported}
 use Rattle.kit_rules.specs.Federation.{IsFederation}
 use Rattle.kit_rules.specs.Parts.{Parts}
 use Rattle.kit_rules.specs.Simulation.{request_at}
-use Rattle.kit_rules.specs.Step.{is_event, no_message, stepped}
+use Rattle.kit_rules.specs.Step.{is_event, no_message, state_after}
 use Rattle.kit_rules.proofs.Growth.{AreNumbered, Grows, grows_by_step}
 use Rattle.kit_rules.proofs.Kept.{kept_by_step}
 use Rattle.kit_laws.proofs.Pendings.{From}
@@ -66,19 +66,19 @@ numbered_at sender n (m ∷ ms) d h zero lt = h.1 ∙ (let e : n ≡ n + 0 = ome
 numbered_at sender n (m ∷ ms) d h (suc k) lt = numbered_at sender (n + 1) ms d h.2 k (omega arith) ∙ (let e : n + 1 + k ≡ n + suc k = omega arith in e)
 
 -- a floor on which a federate knows the same of itself
-floor_still : (b : ℕ) (m : Memory) (places : List P) (me : ℕ) (p q : P) → get_elem? places me ≡ some p → q.own ≡ p.own → Floored b m places → Floored b m (slice_set places me q)
+floor_still : (b : ℕ) (m : Memory) (places : List P) (me : ℕ) (p q : P) → get_elem? places me ≡ some p → q.own ≡ p.own → FloorHolds b m places → FloorHolds b m (slice_set places me q)
 floor_still b m places me p q here same h =
     let long = length-set places me q in
     let stocks : map stock_of (slice_set places me q) ≡ map stock_of places =
-    map-set stock_of places me q ∙ (ap (λ (o : Own). slice_set (map stock_of places) me o.stock) same ∙ set_again (map stock_of places) me (stock_of p) (at_map stock_of places me p here)) in
+    map-set stock_of places me q ∙ (ap (λ (o : SeatState). slice_set (map stock_of places) me o.stock) same ∙ set_again (map stock_of places) me (stock_of p) (at_map stock_of places me p here)) in
     record {
       few = subst (λ (n : ℕ). n ≤ 16) (sym long) h.few;
       small = h.small;
       each = λ j r at.
           let t = was places me p q here j r at in
           let o : r.own ≡ t.before.own = still (λ (x : P). x.own) places me p q same j r t in
-          subst (λ (x : ℕ × Own). OwnFits m x.0 b j x.1) (λ y. (sym long y, sym o y)) (h.each j t.before t.at);
-      pool = subst (λ (x : List Stock × ℕ). Pool m x.0 x.1 b) (λ y. (sym stocks y, sym long y)) h.pool;
+          subst (λ (x : ℕ × SeatState). OwnFits m x.0 b j x.1) (λ y. (sym long y, sym o y)) (h.each j t.before t.at);
+      pool = subst (λ (x : List SeatBuffers × ℕ). Pool m x.0 x.1 b) (λ y. (sym stocks y, sym long y)) h.pool;
       stop = h.stop;
     }
 
@@ -90,7 +90,7 @@ module _ (p : P) (fresh : is_new p.client.request ≡ true) (few : length (start
   f = p.client.federation
 
   abbrev after : State
-  after = stepped p.client.federation p.own.number Start 0 0 p.client.state
+  after = state_after p.client.federation p.own.number Start 0 0 p.client.state
 
   abbrev then : LbtsView
   then = started p.own.number p.client
@@ -113,10 +113,10 @@ module _ (p : P) (fresh : is_new p.client.request ≡ true) (few : length (start
   within : p.own.number < length p.client.federation.federates
   within = subst (λ (x : Parts). me < length x.federates) (sym (w.client.common.each me p w.here).0) (subst (λ (n : ℕ). me < n) w.client.common.many (at_inside places me p w.here))
 
-  gain : Gain (0 + added_of p) p.client.state (stepped p.client.federation p.own.number Start 0 0 p.client.state)
+  gain : Gain (0 + added_of p) p.client.state (state_after p.client.federation p.own.number Start 0 0 p.client.state)
   gain = gain_by_step f me Start 0 0 p.client.state sound within
 
-  grow : Grows p.own.number p.client.state (stepped p.client.federation p.own.number Start 0 0 p.client.state)
+  grow : Grows p.own.number p.client.state (state_after p.client.federation p.own.number Start 0 0 p.client.state)
   grow = grows_by_step f me Start 0 0 p.client.state
 
   sends_are : after.sends ≡ grow.made

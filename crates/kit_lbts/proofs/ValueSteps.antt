@@ -10,9 +10,9 @@ use Rattle.kit_ground.specs.declared.address.Address.TheVariants.{Register}
 use Rattle.kit_ground.specs.declared.address.Reg.{Reg}
 use Rattle.kit_ground.specs.declared.place.Deed.TheVariants.{Published}
 use Rattle.kit_ground.specs.declared.place.Place.{Place}
-use Rattle.kit_ground.specs.Memory.{Memory, stored}
+use Rattle.kit_ground.specs.Memory.{Memory, with_word}
 use Rattle.kit_ground.specs.Rules.{World}
-use Rattle.kit_ground.specs.Steps.{acted, own_after}
+use Rattle.kit_ground.specs.Steps.{place_after, own_after}
 use Rattle.kit_ground.proofs.Lists.{at_inside}
 use Rattle.kit_ground.proofs.Memories.{register_else, stored_here}
 use Rattle.kit_model.specs.declared.share.Share.{Share}
@@ -57,7 +57,7 @@ module _ (p : P) (m : Memory) (places : List P) (w : World lbts_rule p m places)
   word = share_word share (length p.client.contributions)
 
   abbrev now : Memory
-  now = stored m (Register (reg_of p.own.number stage (length p.client.contributions))) (share_word share (length p.client.contributions))
+  now = with_word m (Register (reg_of p.own.number stage (length p.client.contributions))) (share_word share (length p.client.contributions))
 
   abbrev q : P
   q = record { own = own_after (Published (reg_of p.own.number stage (length p.client.contributions)) (share_word share (length p.client.contributions))) p.own; client = p.client }
@@ -159,7 +159,7 @@ module _ (p : P) (m : Memory) (places : List P) (w : World lbts_rule p m places)
   is_value u g x y false false clock own = refl
 
   pub publish : let r = reg_of p.own.number stage (length p.client.contributions) in
-      let word = share_word share (length p.client.contributions) in LbtsRule (stored m (Register r) word) (slice_set places p.own.number (acted progressed (Published r word) p))
+      let word = share_word share (length p.client.contributions) in LbtsRule (with_word m (Register r) word) (slice_set places p.own.number (place_after progressed (Published r word) p))
   publish = subst (λ (u : LbtsView). LbtsRule now (slice_set places me (record { own = own_after (Published r word) p.own; client = u })))
       (sym (is_value (granted me word p.client) (contributed (ready_place p)) (closed p.own.federates me p.client) p.client (r.slot == 12) (r.slot % 6 == share_stage)
       (ne_eqb r.slot 12 (λ e. omega (arith, e, there))) (ne_eqb (r.slot % 6) share_stage (λ e. apart (omega (arith, e, there))))))

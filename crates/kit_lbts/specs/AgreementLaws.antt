@@ -6,7 +6,7 @@ use Rattle.kit_ground.specs.declared.place.Deed.{Deed}
 use Rattle.kit_ground.specs.declared.place.Deed.TheVariants.{Published}
 use Rattle.kit_ground.specs.declared.place.Place.{Place}
 use Rattle.kit_ground.specs.Memory.{Memory}
-use Rattle.kit_ground.specs.Rules.{Keeps, Told, World, blank, places_at_first}
+use Rattle.kit_ground.specs.Rules.{Keeps, WasFound, World, zero_memory, places_at_first}
 use Rattle.kit_parts.specs.Cuts.{AreBounded, AreSound}
 use Rattle.kit_parts.specs.Fronts.{IsFront, part, seat_after}
 use Rattle.kit_parts.specs.OwnLaws.{Spends}
@@ -65,11 +65,11 @@ OthersAgree = (p : Place LbtsView) (a : Address) (deed : ℕ → Deed) → ((wor
 -- at the opening all agree
 abbrev pub OpeningsAgree : Type 0
 OpeningsAgree = (o : Opening) → IsFederation o.federation.value
-    → AgreeingRule blank (places_at_first (lbts_first o) (length o.federation.value.federates) o.federation.value.buffers)
+    → AgreeingRule zero_memory (places_at_first (lbts_first o) (length o.federation.value.federates) o.federation.value.buffers)
 
 -- what the rule tells of a place, it tells with agreement
 abbrev pub ToldWithAgreement : Type 0
-ToldWithAgreement = (p : Place LbtsView) (a : Address) (word : ℕ) → Told agreeing_rule p a word → Told lbts_rule p a word
+ToldWithAgreement = (p : Place LbtsView) (a : Address) (word : ℕ) → WasFound agreeing_rule p a word → WasFound lbts_rule p a word
 
 -- a federate that was granted the end has made its whole part, and has come to what that leads to
 pub record IsComplete (j : ℕ) (v : LbtsView) : Type 0 where

@@ -5,7 +5,7 @@ use Rattle.kit_ground.specs.declared.address.Reg.{Reg}
 use Rattle.kit_ground.specs.declared.place.Deed.{Deed}
 use Rattle.kit_ground.specs.declared.place.Deed.TheVariants.{Published, PostedTo, Collected, ReadPart}
 use Rattle.kit_ground.specs.declared.place.Place.{Place}
-use Rattle.kit_ground.specs.Steps.{acted}
+use Rattle.kit_ground.specs.Steps.{place_after}
 use Rattle.kit_rounds.specs.Ledgers.{Stamp, last_run}
 use Rattle.kit_rounds.specs.Steps.{Posts, Receives, Rises, Contributes}
 use Rattle.kit_lbts.specs.declared.view.Filled.{Filled}
@@ -18,7 +18,7 @@ use Rattle.kit_lbts.specs.Progress.{head_in, message_in, ready, progressed}
 
 -- the place after a deed
 abbrev pub after : Deed → Place LbtsView → Place LbtsView
-after deed p = acted progressed deed p
+after deed p = place_after progressed deed p
 
 -- the deeds that leave a ledger as it is
 abbrev pub IsAside : Deed → Type 0

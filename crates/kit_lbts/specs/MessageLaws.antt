@@ -10,10 +10,10 @@ use Rattle.kit_ground.specs.declared.place.Deed.TheVariants.{Wrote, Charged, Pos
 use Rattle.kit_ground.specs.declared.place.Place.{Place}
 use Rattle.kit_ground.specs.Layout.{mail_words}
 use Rattle.kit_ground.specs.Memory.{Memory}
-use Rattle.kit_ground.specs.Rules.{Keeps, Rule, Told, World}
+use Rattle.kit_ground.specs.Rules.{Keeps, Rule, WasFound, World}
 use Rattle.kit_ground.specs.Steps.{IsChargeable, IsMask, buffer_of}
 use Rattle.kit_queue.specs.declared.entry.Entry.{Entry}
-use Rattle.kit_queue.specs.Entries.{entry_of, first_buffer, is_numbered, settled_first}
+use Rattle.kit_queue.specs.Entries.{entry_of, first_buffer, is_numbered, with_first_settled}
 use Rattle.kit_rules.specs.Delivery.{is_transported, receivers_of}
 use mathlib.Core.Option.{some}
 use lib.ListN.{get_elem?}
@@ -86,7 +86,7 @@ pub record IsTold (p : Place LbtsView) (i : ℕ) (message : Message) : Type 0 wh
 
 abbrev pub BodiesTell : Rule LbtsView → Type 0
 BodiesTell rule = (p : Place LbtsView) (i k head word : ℕ) → i < p.own.federates → k < p.own.buffers → HasHead p i k head
-    → Told rule p (Part i k 1) word → IsTold p i (message_in i head word)
+    → WasFound rule p (Part i k 1) word → IsTold p i (message_in i head word)
 
 -- a buffer may be released that is spent, or whose message waits and is timed below the known bound
 pub record MaySettle (p : Place LbtsView) (i k : ℕ) : Type 0 where
@@ -109,7 +109,7 @@ pub record MaySettleFirst (p : Place LbtsView) (below i k : ℕ) : Type 0 where
   pub buffer : k < p.own.buffers
   pub held : bit_at (slice_index p.own.stock.holds i) k ≡ 1
   pub may : MaySettle p i k
-  pub queue : (put_down i k p.client).queue ≡ settled_first below p.client.queue
+  pub queue : (put_down i k p.client).queue ≡ with_first_settled below p.client.queue
 
 abbrev pub SettlesTell : Rule LbtsView → Type 0
 SettlesTell rule = (p : Place LbtsView) (below i k : ℕ) → below ≤ bound_of p.client → first_buffer below p.client.queue ≡ Some (i, k)

@@ -16,10 +16,10 @@ use Rattle.kit_model.specs.declared.journal.JournalEntry.TheVariants.{Received, 
 use Rattle.kit_model.specs.declared.share.Share.{Share}
 use Rattle.kit_model.specs.Shares.{share_of}
 use Rattle.kit_queue.specs.declared.entry.Entry.{Entry}
-use Rattle.kit_queue.specs.Entries.{messages_of, put_entry, entry_of, without, settled}
+use Rattle.kit_queue.specs.Entries.{messages_of, put_entry, entry_of, entries_without, without_buffer}
 use Rattle.kit_rules.specs.declared.table.Trigger.TheVariants.{Start}
 use Rattle.kit_rules.specs.Parts.{federate_at}
-use Rattle.kit_rules.specs.Step.{stepped, opening_state}
+use Rattle.kit_rules.specs.Step.{state_after, opening_state}
 use Rattle.kit_rules.specs.Delivery.{has_bit, is_transported}
 use Rattle.kit_rules.specs.Simulation.{request_at, after_block}
 use Rattle.kit_rounds.specs.Ledgers.{nothing}
@@ -62,7 +62,7 @@ lbts_first o k = record {
 -- the start's rules have run
 abbrev pub started : ℕ → LbtsView → LbtsView
 started j v =
-    let s = stepped v.federation j Start 0 0 v.state in
+    let s = state_after v.federation j Start 0 0 v.state in
     record v { state = s; request = Some (request_at s.wish 0 v.federation.end); outbox = filter (is_transported v.federation) s.sends }
 
 -- they run before the first step that needs them
@@ -118,7 +118,7 @@ event_in i k m v =
 -- a Retraction takes its target back out of the queue, or makes it an orphan
 abbrev pub retraction_in : ℕ → ℕ → Message → LbtsView → LbtsView
 retraction_in i k m v = record v {
-  queue = without i m.value v.queue;
+  queue = entries_without i m.value v.queue;
   orphans = if is_some (entry_of i m.value v.queue) then v.orphans else v.orphans ++ orphan i m.value ∷ [];
   spent = v.spent ++ spent i k ∷ spent_entry i (entry_of i m.value v.queue);
 }
@@ -142,7 +142,7 @@ received_whole i k body v =
 abbrev pub put_down : ℕ → ℕ → LbtsView → LbtsView
 put_down i k v =
     if list_any (is_spent i k) v.spent then record v { spent = filter (λ s. not (is_spent i k s)) v.spent }
-    else record v { queue = map (λ e. if waits_in i k e then settled e else e) v.queue }
+    else record v { queue = map (λ e. if waits_in i k e then without_buffer e else e) v.queue }
 
 -- a buffer was charged with the first message of the outbox
 abbrev pub first_letter : LbtsView → List Message → Option Filled

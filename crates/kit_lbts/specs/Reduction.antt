@@ -5,7 +5,7 @@ use Rattle.std.specs.List.{range_with_len}
 use Rattle.kit_ground.specs.declared.address.Reg.{Reg}
 use Rattle.kit_model.specs.declared.share.Share.{Share}
 use Rattle.kit_model.specs.Blocks.{stages, width, partner_of, in_block, everybody, stage_value, round_result}
-use Rattle.kit_model.specs.Shares.{joined}
+use Rattle.kit_model.specs.Shares.{share_sum}
 use Rattle.kit_lbts.specs.declared.view.Scheme.{Scheme}
 use Rattle.kit_lbts.specs.declared.view.Scheme.TheVariants.{Flat, Butterfly}
 
@@ -74,8 +74,8 @@ handed_back own [] = own
 handed_back own (s ∷ ss) = s
 
 abbrev pub gathered : Scheme → ℕ → ℕ → Share → List Share → Share
-gathered Flat n x own taken = fold joined own taken
-gathered Butterfly n x own taken = if is_outer n x then handed_back own taken else fold joined own taken
+gathered Flat n x own taken = fold share_sum own taken
+gathered Butterfly n x own taken = if is_outer n x then handed_back own taken else fold share_sum own taken
 
 -- how many are taken in before a stage's value is there: none for the own share, all for the result
 abbrev pub needed : Scheme → ℕ → ℕ → ℕ → ℕ

@@ -5,14 +5,14 @@ use Rattle.std.specs.List.{list_any}
 use Rattle.kit_base.specs.declared.message.Message.{Message}
 use Rattle.kit_base.specs.Order.{in_order}
 use Rattle.kit_ground.specs.declared.place.Place.{Place}
-use Rattle.kit_ground.specs.declared.place.Stock.{Stock}
+use Rattle.kit_ground.specs.declared.place.SeatBuffers.{SeatBuffers}
 use Rattle.kit_ground.specs.Steps.{buffer_of}
 use Rattle.kit_model.specs.Journals.{IsLawful, last_grant}
 use Rattle.kit_queue.specs.declared.entry.Entry.{Entry}
 use Rattle.kit_queue.specs.Entries.{messages_of, is_numbered, IsInOrder, AreNumberedApart}
 use Rattle.kit_rules.specs.declared.table.Request.{Request}
 use Rattle.kit_rules.specs.Federation.{IsWish}
-use Rattle.kit_rules.specs.Delivery.{has_bit, is_transported, pending}
+use Rattle.kit_rules.specs.Delivery.{has_bit, is_transported, pending_messages}
 use Rattle.kit_rules.specs.Simulation.{request_at}
 use Rattle.kit_rules.specs.Parts.{Parts}
 use Rattle.kit_rules.specs.Step.{is_event, no_message}
@@ -47,7 +47,7 @@ pub record Holdings (p : Place LbtsView) : Type 0 where
 pub record Queue (j : ℕ) (p : Place LbtsView) : Type 0 where
   pub ordered : IsInOrder p.client.queue
   pub apart : AreNumberedApart p.client.queue
-  pub is : messages_of p.client.queue ≡ in_order (pending p.client.federation j (delivered p.client) (received p.client))
+  pub is : messages_of p.client.queue ≡ in_order (pending_messages p.client.federation j (delivered p.client) (received p.client))
   pub ahead : All (λ (e : Entry). time_of p.client < e.message.time) p.client.queue
   pub settled : All (λ (e : Entry). e.buffer ≡ None → e.message.time < bound_of p.client) p.client.queue
 
@@ -80,12 +80,12 @@ pub record Granting (p : Place LbtsView) : Type 0 where
 
 -- whether the first message of the outbox is still to be posted to j: by the buffer that is being posted, or, where
 -- there is none, to each that it is for
-abbrev pub is_owed : Option ℕ → Stock → Parts → ℕ → Message → Bool
+abbrev pub is_owed : Option ℕ → SeatBuffers → Parts → ℕ → Message → Bool
 is_owed None s f j m = is_for f j m
 is_owed (Some k) s f j m = has_bit (buffer_of s k).to_post j
 
 -- the messages of an outbox that are still to be posted to j
-abbrev pub left_of : Option ℕ → Stock → Parts → ℕ → List Message → List Message
+abbrev pub left_of : Option ℕ → SeatBuffers → Parts → ℕ → List Message → List Message
 left_of sending s f j [] = []
 left_of sending s f j (m ∷ ms) = if is_owed sending s f j m then m ∷ filter (is_for f j) ms else filter (is_for f j) ms
 

@@ -5,8 +5,8 @@ use Rattle.std.proofs.lemmas.Bool.{cases_lt, lt-ltb, le-ltb, eq-eqb, or_right}
 use Rattle.std.proofs.lemmas.Bool.Decides.{nat_tests}
 use Rattle.std.proofs.lemmas.List.Sums.{sum_by-cons, sum_by_push, fold_push}
 use Rattle.kit_model.specs.declared.share.Share.{Share}
-use Rattle.kit_model.specs.Shares.{joined}
-use Rattle.kit_model.specs.Blocks.{width, partner_of, in_block, everybody, block, joined_over, round_result}
+use Rattle.kit_model.specs.Shares.{share_sum}
+use Rattle.kit_model.specs.Blocks.{width, partner_of, in_block, everybody, block, share_sum_over, round_result}
 use Rattle.kit_model.specs.BlockLaws.{OneShare, OneMoreShare, GroupsJoin, GroupsDecide, GroupsStayWithin, FirstValue, NextValue, LastValue, BlockDecides}
 use Rattle.kit_model.proofs.Widths.{there_is}
 use Rattle.kit_model.proofs.Rows.{rows_apart, first_block, next_block, partners_are_apart, partners_are_within, in_own_block, last_block}
@@ -30,11 +30,11 @@ lows share y = (share y).low
 
 pub one_share : OneShare
 one_share share x =
-    same_share (joined_over share x (x ∷ [])) (share x) (omega (arith, sum_by-cons (outs share) x [])) (omega (arith, sum_by-cons (inns share) x [])) (omega arith)
+    same_share (share_sum_over share x (x ∷ [])) (share x) (omega (arith, sum_by-cons (outs share) x [])) (omega (arith, sum_by-cons (inns share) x [])) (omega arith)
 
 pub one_more_share : OneMoreShare
 one_more_share share one y ys =
-    same_share (joined_over share one (ys ++ y ∷ [])) (joined (joined_over share one ys) (share y))
+    same_share (share_sum_over share one (ys ++ y ∷ [])) (share_sum (share_sum_over share one ys) (share y))
     (sum_by_push (outs share) ys y) (sum_by_push (inns share) ys y) (fold_push (λ low z. min low (lows share z)) (lows share one) ys y)
 
 -- the least over what passes one of two tests, where the second's beginning is among it
@@ -48,20 +48,20 @@ least_union f p q n a y yn h =
 -- two sets of federates that share nobody, given by tests
 pub groups_join_law : GroupsJoin
 groups_join_law n share p q x y yn h apart =
-    same_share (joined_over share x (filter (λ z. p z || q z) (everybody n))) (joined (joined_over share x (filter p (everybody n))) (joined_over share y (filter q (everybody n))))
+    same_share (share_sum_over share x (filter (λ z. p z || q z) (everybody n))) (share_sum (share_sum_over share x (filter p (everybody n))) (share_sum_over share y (filter q (everybody n))))
     (sum_either (outs share) p q (everybody n) apart)
     (sum_either (inns share) p q (everybody n) apart)
     (least_union (lows share) p q n (lows share x) y yn h)
 
 -- a federate alone, given by a test
-alone : (share : ℕ → Share) (n x : ℕ) → x < n → joined_over share x (filter (λ z. z == x) (everybody n)) ≡ share x
-alone share n x lt = ap (joined_over share x) (one_passes x 0 n (omega arith) (omega arith)) ∙ one_share share x
+alone : (share : ℕ → Share) (n x : ℕ) → x < n → share_sum_over share x (filter (λ z. z == x) (everybody n)) ≡ share x
+alone share n x lt = ap (share_sum_over share x) (one_passes x 0 n (omega arith) (omega arith)) ∙ one_share share x
 
 two_together : (share : ℕ → Share) (n x y : ℕ) → x < n → y < n → x ≢ y
-    → joined_over share x (filter (λ z. (z == x) || (z == y)) (everybody n)) ≡ joined (share x) (share y)
+    → share_sum_over share x (filter (λ z. (z == x) || (z == y)) (everybody n)) ≡ share_sum (share x) (share y)
 two_together share n x y xn yn ne =
     groups_join_law n share (λ z. z == x) (λ z. z == y) x y yn (eq-eqb y y refl) (λ z. rows_apart z x y ne)
-    ∙ ap (λ s. joined s (joined_over share y (filter (λ z. z == y) (everybody n)))) (alone share n x xn) ∙ ap (joined (share x)) (alone share n y yn)
+    ∙ ap (λ s. share_sum s (share_sum_over share y (filter (λ z. z == y) (everybody n)))) (alone share n x xn) ∙ ap (share_sum (share x)) (alone share n y yn)
 
 -- a federate that stands for no outer one
 no_outer : (n w x y : ℕ) → y < n → n ≤ w + x → (nat_lt y n && ((y == x) || (y == w + x))) ≡ (y == x)
@@ -77,12 +77,12 @@ first_value n share x one within =
           let is : block n 0 x ≡ filter (λ z. (z == x) || (z == w + x)) (everybody n) =
           same_pass (in_block n 0 x) (λ z. (z == x) || (z == w + x)) 0 n
           (λ y low below. first_block n x y within ∙ ap (λ t. t && ((y == x) || (y == w + x))) (lt-ltb y n (omega arith))) in
-          ap (joined_over share x) is ∙ two_together share n x (w + x) here lt ne ∙ ap (λ b. cond b (joined (share x) (share (w + x))) (share x)) (sym (lt-ltb (w + x) n lt))
+          ap (share_sum_over share x) is ∙ two_together share n x (w + x) here lt ne ∙ ap (λ b. cond b (share_sum (share x) (share (w + x))) (share x)) (sym (lt-ltb (w + x) n lt))
       | inr le ↦
           let is : block n 0 x ≡ filter (λ z. z == x) (everybody n) =
           same_pass (in_block n 0 x) (λ z. z == x) 0 n (λ y low below. first_block n x y within ∙ no_outer n w x y (omega arith) le) in
-          ap (joined_over share x) is ∙ alone share n x here
-          ∙ ap (λ b. cond b (joined (share x) (share (w + x))) (share x)) (sym (le-ltb (w + x) n le))
+          ap (share_sum_over share x) is ∙ alone share n x here
+          ∙ ap (λ b. cond b (share_sum (share x) (share (w + x))) (share x)) (sym (le-ltb (w + x) n le))
     ]
 
 pub next_value : NextValue
@@ -93,7 +93,7 @@ next_value n share stage x one within lt =
     let there : y < width n = partners_are_within n stage x within lt in
     let yn : y < n = there_is n y one there in
     let is : block n (stage + 1) x ≡ filter (λ z. p z || q z) (everybody n) = same_pass (in_block n (stage + 1) x) (λ z. p z || q z) 0 n (λ z low below. next_block n stage x z) in
-    ap (joined_over share x) is ∙ groups_join_law n share p q x y yn (in_own_block n stage y one there) (λ z. partners_are_apart n stage x z)
+    ap (share_sum_over share x) is ∙ groups_join_law n share p q x y yn (in_own_block n stage y one there) (λ z. partners_are_apart n stage x z)
 
 -- the least over everybody is the same, whoever it begins with
 least_of_all : (f : ℕ → ℕ) (n x : ℕ) → x < n → least f (f x) (everybody n) ≡ least f (f 0) (everybody n)
@@ -107,8 +107,8 @@ least_of_all f n x lt =
 pub last_value : LastValue
 last_value n share x one within =
     let xn : x < n = there_is n x one within in
-    ap (joined_over share x) (last_block n x one within)
-    ∙ same_share (joined_over share x (everybody n)) (round_result n share) refl refl (least_of_all (lows share) n x xn)
+    ap (share_sum_over share x) (last_block n x one within)
+    ∙ same_share (share_sum_over share x (everybody n)) (round_result n share) refl refl (least_of_all (lows share) n x xn)
 
 pub groups_stay_within : GroupsStayWithin
 groups_stay_within n share p x =
@@ -116,7 +116,7 @@ groups_stay_within n share p x =
 
 pub groups_decide : GroupsDecide
 groups_decide n share other p x here h =
-    same_share (joined_over share x (filter p (everybody n))) (joined_over other x (filter p (everybody n)))
+    same_share (share_sum_over share x (filter p (everybody n))) (share_sum_over other x (filter p (everybody n)))
     (sum_agrees (outs share) (outs other) p 0 n (λ y le lt e. ap (λ (s : Share). s.out) (h y (omega arith) e)))
     (sum_agrees (inns share) (inns other) p 0 n (λ y le lt e. ap (λ (s : Share). s.inn) (h y (omega arith) e)))
     (least_agrees (lows share) (lows other) p (lows share x) 0 n (λ y le lt e. ap (λ (s : Share). s.low) (h y (omega arith) e))

@@ -1,8 +1,8 @@
 -- Laws of the blocks of a butterfly, and of their values.
 use Rattle.std.specs.Prelude.{◌≡◌, ℕ, ◌+◌, ◌*◌, ◌<◌, ◌≤◌, ◌==◌, ◌&&◌, ◌||◌, nat_lt, Bool, true, false, IsTrue, if◌then◌else◌, List, [], ◌∷◌, ◌++◌, filter}
 use Rattle.kit_model.specs.declared.share.Share.{Share}
-use Rattle.kit_model.specs.Shares.{joined}
-use Rattle.kit_model.specs.Blocks.{stages, width, place_of, partner_of, in_block, everybody, block, joined_over, stage_value, round_result}
+use Rattle.kit_model.specs.Shares.{share_sum}
+use Rattle.kit_model.specs.Blocks.{stages, width, place_of, partner_of, in_block, everybody, block, share_sum_over, stage_value, round_result}
 
 -- the width is the greatest power of two that is not above the number of federates
 abbrev pub WidthIsGreatest : Type 0
@@ -42,36 +42,36 @@ LastBlock = (n x : ℕ) → 1 ≤ n → x < width n → block n (stages n) x ≡
 
 -- the share of one federate is its own
 abbrev pub OneShare : Type 0
-OneShare = (share : ℕ → Share) (x : ℕ) → joined_over share x (x ∷ []) ≡ share x
+OneShare = (share : ℕ → Share) (x : ℕ) → share_sum_over share x (x ∷ []) ≡ share x
 
 -- the shares of one federate more are joined with its own
 abbrev pub OneMoreShare : Type 0
-OneMoreShare = (share : ℕ → Share) (one y : ℕ) (ys : List ℕ) → joined_over share one (ys ++ y ∷ []) ≡ joined (joined_over share one ys) (share y)
+OneMoreShare = (share : ℕ → Share) (one y : ℕ) (ys : List ℕ) → share_sum_over share one (ys ++ y ∷ []) ≡ share_sum (share_sum_over share one ys) (share y)
 
 -- the shares of two sets of federates that have nobody in common are joined
 abbrev pub GroupsJoin : Type 0
 GroupsJoin = (n : ℕ) (share : ℕ → Share) (p q : ℕ → Bool) (x y : ℕ) → y < n → q y ≡ true → ((z : ℕ) → (p z && q z) ≡ false)
-    → joined_over share x (filter (λ z. p z || q z) (everybody n)) ≡ joined (joined_over share x (filter p (everybody n))) (joined_over share y (filter q (everybody n)))
+    → share_sum_over share x (filter (λ z. p z || q z) (everybody n)) ≡ share_sum (share_sum_over share x (filter p (everybody n))) (share_sum_over share y (filter q (everybody n)))
 
 -- the shares together depend on those of the set alone
 abbrev pub GroupsDecide : Type 0
 GroupsDecide = (n : ℕ) (share other : ℕ → Share) (p : ℕ → Bool) (x : ℕ) → share x ≡ other x → ((y : ℕ) → y < n → p y ≡ true → share y ≡ other y)
-    → joined_over share x (filter p (everybody n)) ≡ joined_over other x (filter p (everybody n))
+    → share_sum_over share x (filter p (everybody n)) ≡ share_sum_over other x (filter p (everybody n))
 
 -- a set's counts are no greater than everybody's, and its low is no greater than that of one of them
 abbrev pub GroupsStayWithin : Type 0
-GroupsStayWithin = (n : ℕ) (share : ℕ → Share) (p : ℕ → Bool) (x : ℕ) → let together = joined_over share x (filter p (everybody n)) in
+GroupsStayWithin = (n : ℕ) (share : ℕ → Share) (p : ℕ → Bool) (x : ℕ) → let together = share_sum_over share x (filter p (everybody n)) in
     (together.out ≤ (round_result n share).out) × (together.inn ≤ (round_result n share).inn) × (together.low ≤ (share x).low)
 
 -- at the first stage the value of x is its own share, joined with that of the outer federate that it stands for
 abbrev pub FirstValue : Type 0
 FirstValue = (n : ℕ) (share : ℕ → Share) (x : ℕ) → 1 ≤ n → x < width n
-    → stage_value n share 0 x ≡ (if nat_lt (width n + x) n then joined (share x) (share (width n + x)) else share x)
+    → stage_value n share 0 x ≡ (if nat_lt (width n + x) n then share_sum (share x) (share (width n + x)) else share x)
 
 -- the next value of x is its value, joined with that of its partner
 abbrev pub NextValue : Type 0
 NextValue = (n : ℕ) (share : ℕ → Share) (stage x : ℕ) → 1 ≤ n → x < width n → stage < stages n
-    → stage_value n share (stage + 1) x ≡ joined (stage_value n share stage x) (stage_value n share stage (partner_of stage x))
+    → stage_value n share (stage + 1) x ≡ share_sum (stage_value n share stage x) (stage_value n share stage (partner_of stage x))
 
 -- after the last stage the value is the result of the round
 abbrev pub LastValue : Type 0

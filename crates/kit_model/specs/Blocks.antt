@@ -43,13 +43,13 @@ abbrev pub least_low : (ℕ → Share) → ℕ → List ℕ → ℕ
 least_low share one ys = fold (λ low y. min low (share y).low) (share one).low ys
 
 -- the shares of these federates together, of whom `one` is one: the sums of the counts, and the least low
-abbrev pub joined_over : (ℕ → Share) → ℕ → List ℕ → Share
-joined_over share one ys = record { out = sum_by (λ y. (share y).out) ys; inn = sum_by (λ y. (share y).inn) ys; low = least_low share one ys }
+abbrev pub share_sum_over : (ℕ → Share) → ℕ → List ℕ → Share
+share_sum_over share one ys = record { out = sum_by (λ y. (share y).out) ys; inn = sum_by (λ y. (share y).inn) ys; low = least_low share one ys }
 
 -- the value of x at a stage: the contributions of its block together
 abbrev pub stage_value : ℕ → (ℕ → Share) → ℕ → ℕ → Share
-stage_value n share stage x = joined_over share x (block n stage x)
+stage_value n share stage x = share_sum_over share x (block n stage x)
 
 -- the result of a round: all contributions together
 abbrev pub round_result : ℕ → (ℕ → Share) → Share
-round_result n share = joined_over share 0 (everybody n)
+round_result n share = share_sum_over share 0 (everybody n)

@@ -6,7 +6,7 @@ use Rattle.kit_model.specs.declared.journal.JournalEntry.TheVariants.{Received, 
 use Rattle.kit_model.specs.declared.share.Share.{Share}
 use Rattle.kit_model.specs.Journals.{IsLawful, time_granted, last_grant, now_of, MayFollowGrant}
 use Rattle.kit_model.specs.Counts.{Copies, is_old, old_count, out_count, inn_count, with_posted, with_received}
-use Rattle.kit_model.specs.Shares.{joined, FitsWord, share_word, share_of, Shows}
+use Rattle.kit_model.specs.Shares.{share_sum, FitsWord, share_word, share_of, Shows}
 
 -- a journal with no entry is lawful
 abbrev pub EmptyIsLawful : Type 0
@@ -71,11 +71,11 @@ NewCopiesDoNotCount = (run : ℕ) (colours more : List ℕ) → All (λ c. run �
 
 -- two shares may be joined in either order
 abbrev pub JoinCommutes : Type 0
-JoinCommutes = (a b : Share) → joined a b ≡ joined b a
+JoinCommutes = (a b : Share) → share_sum a b ≡ share_sum b a
 
 -- and three in any grouping
 abbrev pub JoinAssociates : Type 0
-JoinAssociates = (a b c : Share) → joined (joined a b) c ≡ joined a (joined b c)
+JoinAssociates = (a b c : Share) → share_sum (share_sum a b) c ≡ share_sum a (share_sum b c)
 
 -- a share that was packed comes back, with its round modulo 8
 abbrev pub SharesComeBack : Type 0

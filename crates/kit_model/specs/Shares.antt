@@ -3,8 +3,8 @@ use Rattle.std.specs.Prelude.{◌≡◌, ℕ, ◌+◌, ◌*◌, ◌/◌, ◌%◌
 use Rattle.kit_model.specs.declared.share.Share.{Share}
 
 -- two shares together: the sums of the counts, and the lesser low
-abbrev pub joined : Share → Share → Share
-joined a b = record { out = a.out + b.out; inn = a.inn + b.inn; low = min a.low b.low }
+abbrev pub share_sum : Share → Share → Share
+share_sum a b = record { out = a.out + b.out; inn = a.inn + b.inn; low = min a.low b.low }
 
 -- a share that has room in a word
 pub record FitsWord (share : Share) : Type 0 where

@@ -1,5 +1,5 @@
 ghost use Rattle.std.specs.Prelude.{◌≡◌, ◌+◌, ◌^◌, ◌<◌};
-ghost use Rattle.kit_model.specs.Shares.{joined, FitsWord, share_word, share_of};
+ghost use Rattle.kit_model.specs.Shares.{share_sum, FitsWord, share_word, share_of};
 
 /// What a federate contributes to a round of the reduction, or what some federates contribute together.
 #[derive(Clone, Copy, Debug, PartialEq, Eq)]
@@ -16,7 +16,7 @@ pub struct Share {
 pub fn join_shares(a: Share, b: Share) -> Share
     requires out { a.out + b.out < 2 ^ 22 }
     requires inn { a.inn + b.inn < 2 ^ 22 }
-    ensures { result ≡ joined a b }
+    ensures { result ≡ share_sum a b }
 {
     Share {
         out: a.out + b.out,

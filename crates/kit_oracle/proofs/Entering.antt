@@ -8,7 +8,7 @@ use Rattle.std.proofs.lemmas.Bool.{cases_Bool, and_from, eq-eqb, leb-false, lt-l
 use Rattle.kit_base.specs.declared.message.Message.{Message}
 use Rattle.kit_base.specs.Order.{key_cmp, put, in_order}
 use Rattle.kit_rules.specs.Parts.{Parts}
-use Rattle.kit_rules.specs.Delivery.{is_same, pending, due_messages}
+use Rattle.kit_rules.specs.Delivery.{is_same, pending_messages, due_messages}
 use Rattle.kit_oracle.specs.Queues.{enter, front, behind}
 use Rattle.kit_oracle.proofs.Keeping.{same_key}
 use Rattle.kit_oracle.proofs.Ordered.{Up, weaker, none_left}
@@ -64,9 +64,9 @@ behind_is d (x ∷ xs) u =
     ]
 
 -- a grant of d delivers the front of what is pending in order
-pub front_is_due : (p : Parts) (i d : ℕ) (got sent : List Message) → front d (in_order (pending p i got sent)) ≡ due_messages p i d got sent
-front_is_due p i d got sent = front_is d (in_order (pending p i got sent)) (up_in_order (pending p i got sent)) ∙ sym (due_is_front p i d got sent)
+pub front_is_due : (p : Parts) (i d : ℕ) (got sent : List Message) → front d (in_order (pending_messages p i got sent)) ≡ due_messages p i d got sent
+front_is_due p i d got sent = front_is d (in_order (pending_messages p i got sent)) (up_in_order (pending_messages p i got sent)) ∙ sym (due_is_front p i d got sent)
 
 -- and leaves what is behind it
-pub behind_is_left : (p : Parts) (i d : ℕ) (got sent : List Message) → behind d (in_order (pending p i got sent)) ≡ in_order (pending p i (got ++ due_messages p i d got sent) sent)
-behind_is_left p i d got sent = behind_is d (in_order (pending p i got sent)) (up_in_order (pending p i got sent)) ∙ sym (left_is_back p i d got sent)
+pub behind_is_left : (p : Parts) (i d : ℕ) (got sent : List Message) → behind d (in_order (pending_messages p i got sent)) ≡ in_order (pending_messages p i (got ++ due_messages p i d got sent) sent)
+behind_is_left p i d got sent = behind_is d (in_order (pending_messages p i got sent)) (up_in_order (pending_messages p i got sent)) ∙ sym (left_is_back p i d got sent)

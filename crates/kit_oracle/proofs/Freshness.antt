@@ -10,7 +10,7 @@ use Rattle.kit_rules.specs.Parts.{Parts}
 use Rattle.kit_rules.specs.Federation.{IsFederation}
 use Rattle.kit_rules.specs.Step.{is_event}
 use Rattle.kit_rules.specs.Delivery.{is_same, is_due, due_messages}
-use Rattle.kit_rules.specs.Simulation.{Seat, World, started, started_seat, seat_at, nobody_seated, granted_at, granted}
+use Rattle.kit_rules.specs.Simulation.{Seat, World, world_at_start, seat_at_start, seat_at, nobody_seated, seat_after_pair, world_after_grant}
 use Rattle.kit_rules.proofs.Growth.{AreNumbered}
 use Rattle.kit_laws.proofs.Fitting.{all_in_order}
 use Rattle.kit_laws.proofs.Numbers.{gained}
@@ -102,11 +102,11 @@ sent_by k n bound [] num lt = tt
 sent_by k n bound (m ∷ ms) num lt = ((let is : m.sender ≡ k = num.0 in omega arith), sent_by k (n + 1) bound ms num.2 lt)
 
 -- what a grant makes is fresh
-pub grant_fresh : (p : Parts) (w : World) (g : ℕ × ℕ) → g.1 < length w.seats → Told w → AreFresh (granted p w g).seats w.messages (drop (length (seat_at w g.1).state.sends) (granted_at p w g).state.sends)
+pub grant_fresh : (p : Parts) (w : World) (g : ℕ × ℕ) → g.1 < length w.seats → Told w → AreFresh (world_after_grant p w g).seats w.messages (drop (length (seat_at w g.1).state.sends) (seat_after_pair p w g).state.sends)
 grant_fresh p w g lt t =
-    let v = granted p w g in
+    let v = world_after_grant p w g in
     let old = seat_at w g.1 in
-    let new = granted_at p w g in
+    let new = seat_after_pair p w g in
     let gr = grows_by_grant p w g in
     let made = drop (length old.state.sends) new.state.sends in
     let is : made ≡ gr.made = gained g.1 old.state new.state gr in
@@ -119,14 +119,14 @@ grant_fresh p w g lt t =
     fresh_from v v.seats w.messages made after refl (sent_by g.1 old.state.next (length v.seats) made numbered (omega (arith, length-set w.seats g.1 new))) (had_lower w g.1 old.state.next v.seats made had numbered (omega arith))
 
 -- the start's messages are of the federates there are
-starts_by : (p : Parts) (a n bound : ℕ) → a + n ≤ bound → AllByRecursion (λ (m : Message). m.sender < bound) (flat_map (λ (s : Seat). s.state.sends) (map (started_seat p) (range_with_len a n)))
+starts_by : (p : Parts) (a n bound : ℕ) → a + n ≤ bound → AllByRecursion (λ (m : Message). m.sender < bound) (flat_map (λ (s : Seat). s.state.sends) (map (seat_at_start p) (range_with_len a n)))
 starts_by p a zero bound le = tt
 starts_by p a (suc n) bound le =
-    all-append (λ (m : Message). m.sender < bound) (started_seat p a).state.sends (flat_map (λ (s : Seat). s.state.sends) (map (started_seat p) (range_with_len (a + 1) n)))
-    (sent_by a 1 bound (started_seat p a).state.sends (own_numbered p a) (omega arith)) (starts_by p (a + 1) n bound (omega arith))
+    all-append (λ (m : Message). m.sender < bound) (seat_at_start p a).state.sends (flat_map (λ (s : Seat). s.state.sends) (map (seat_at_start p) (range_with_len (a + 1) n)))
+    (sent_by a 1 bound (seat_at_start p a).state.sends (own_numbered p a) (omega arith)) (starts_by p (a + 1) n bound (omega arith))
 
 -- nothing was delivered before the start
-none_had : (p : Parts) (m : Message) (a n : ℕ) → Higher (map (started_seat p) (range_with_len a n)) m
+none_had : (p : Parts) (m : Message) (a n : ℕ) → Higher (map (seat_at_start p) (range_with_len a n)) m
 none_had p m a zero = tt
 none_had p m a (suc n) = (tt, none_had p m (a + 1) n)
 
@@ -136,9 +136,9 @@ for_all P [] f = tt
 for_all P (m ∷ ms) f = (f m, for_all P ms f)
 
 -- what the start makes is fresh
-pub start_fresh : (p : Parts) → IsFederation p → AreFresh (started p).seats [] (started p).messages
+pub start_fresh : (p : Parts) → IsFederation p → AreFresh (world_at_start p).seats [] (world_at_start p).messages
 start_fresh p f =
     let n = length p.federates in
-    fresh_from (started p) (started p).seats [] (started p).messages (told p 0 f) refl
-    (starts_by p 0 n (length (started p).seats) (omega (arith, length-map-range_with_len (started_seat p) 0 n)))
-    (for_all (Higher (started p).seats) (started p).messages (λ m. none_had p m 0 n))
+    fresh_from (world_at_start p) (world_at_start p).seats [] (world_at_start p).messages (told p 0 f) refl
+    (starts_by p 0 n (length (world_at_start p).seats) (omega (arith, length-map-range_with_len (seat_at_start p) 0 n)))
+    (for_all (Higher (world_at_start p).seats) (world_at_start p).messages (λ m. none_had p m 0 n))

@@ -10,7 +10,7 @@ use Rattle.kit_rules.specs.declared.table.Request.TheVariants as request
 use Rattle.kit_rules.specs.Parts.{Parts}
 use Rattle.kit_rules.specs.Step.{is_event}
 use Rattle.kit_base.specs.Order.{key_cmp, is_before, put, in_order}
-use Rattle.kit_rules.specs.Delivery.{is_same, retracts, is_transported, has_bit, receivers_of, is_pending, pending, is_due, due_messages, due_time}
+use Rattle.kit_rules.specs.Delivery.{is_same, retracts, is_transported, has_bit, receivers_of, is_pending, pending_messages, is_due, due_messages, due_time}
 use Rattle.kit_oracle.specs.Queues.{first_time}
 use Rattle.kit_oracle.proofs.Ordered.{key_order, place, arranged, Up, up_arranged, filter_arranged}
 use Rattle.kit_laws.proofs.Pendings.{filter_each, any_filter_here, any_filter_more, same_self, pending_got, pending_front, pending_sent, not_false, any_left, any_right, any_in_order}
@@ -44,9 +44,9 @@ filter_both p q (x ∷ xs) =
     ]
 
 -- what is due is the front, within d, of what is pending in order
-pub due_is_front : (p : Parts) (i d : ℕ) (got sent : List Message) → due_messages p i d got sent ≡ filter (λ (m : Message). nat_le m.time d) (in_order (pending p i got sent))
+pub due_is_front : (p : Parts) (i d : ℕ) (got sent : List Message) → due_messages p i d got sent ≡ filter (λ (m : Message). nat_le m.time d) (in_order (pending_messages p i got sent))
 due_is_front p i d got sent =
-    ap in_order (filter_both (λ (m : Message). nat_le m.time d) (is_pending p i got sent) sent) ∙ sym (filter_in_order (λ (m : Message). nat_le m.time d) (pending p i got sent))
+    ap in_order (filter_both (λ (m : Message). nat_le m.time d) (is_pending p i got sent) sent) ∙ sym (filter_in_order (λ (m : Message). nat_le m.time d) (pending_messages p i got sent))
 
 -- the least of a time and those of messages
 abbrev earliest : ℕ → List Message → ℕ
@@ -120,7 +120,7 @@ none_same m d (x ∷ xs) lt h =
 due_early : (p : Parts) (i d : ℕ) (got sent : List Message) → AllByRecursion (λ (x : Message). nat_le x.time d ≡ true) (due_messages p i d got sent)
 due_early p i d got sent =
     let P : List Message → Type 0 = AllByRecursion (λ (x : Message). nat_le x.time d ≡ true) in
-    subst P (sym (due_is_front p i d got sent)) (filter_passes (λ (m : Message). nat_le m.time d) (in_order (pending p i got sent)))
+    subst P (sym (due_is_front p i d got sent)) (filter_passes (λ (m : Message). nat_le m.time d) (in_order (pending_messages p i got sent)))
 
 -- a list in which none passes adds none
 pub any_both : {X : Type 0} (p : X → Bool) (xs ys : List X) → list_any p ys ≡ false → list_any p (xs ++ ys) ≡ list_any p xs
@@ -160,9 +160,9 @@ left_each p i d got sent (x ∷ xs) given =
 
 -- what a grant of d leaves is what was pending in order behind d
 pub left_is_back : (p : Parts) (i d : ℕ) (got sent : List Message)
-    → in_order (pending p i (got ++ due_messages p i d got sent) sent) ≡ filter (λ (m : Message). not (nat_le m.time d)) (in_order (pending p i got sent))
+    → in_order (pending_messages p i (got ++ due_messages p i d got sent) sent) ≡ filter (λ (m : Message). not (nat_le m.time d)) (in_order (pending_messages p i got sent))
 left_is_back p i d got sent =
     ap in_order (filter_same (is_pending p i (got ++ due_messages p i d got sent) sent) (λ (m : Message). not (nat_le m.time d) && is_pending p i got sent m) sent
     (left_each p i d got sent sent (λ m h. any_in_order (is_same m) [] (filter (is_due p i d got sent) sent) h))
     ∙ filter_both (λ (m : Message). not (nat_le m.time d)) (is_pending p i got sent) sent)
-    ∙ sym (filter_in_order (λ (m : Message). not (nat_le m.time d)) (pending p i got sent))
+    ∙ sym (filter_in_order (λ (m : Message). not (nat_le m.time d)) (pending_messages p i got sent))

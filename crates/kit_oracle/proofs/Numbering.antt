@@ -9,11 +9,11 @@ use Rattle.kit_base.proofs.Lists.{all-append, all_filter, each_weaker}
 use Rattle.kit_rules.specs.Parts.{Parts}
 use Rattle.kit_rules.specs.declared.table.Trigger.TheVariants.{Grant, Got}
 use Rattle.kit_rules.specs.declared.scene.State.{State}
-use Rattle.kit_rules.specs.Step.{stepped}
+use Rattle.kit_rules.specs.Step.{state_after}
 use Rattle.kit_rules.proofs.Growth.{AreNumbered, AreNumbered-append}
 use Rattle.kit_rules.proofs.Backs.{Aimed, aimed_by_step}
 use Rattle.kit_rules.specs.Delivery.{is_due, due_messages}
-use Rattle.kit_rules.specs.Simulation.{Seat, World, seat_at, nobody_seated, granted_at, granted, after_deliveries}
+use Rattle.kit_rules.specs.Simulation.{Seat, World, seat_at, nobody_seated, seat_after_pair, world_after_grant, after_deliveries}
 use Rattle.kit_laws.proofs.Fitting.{all_in_order}
 use Rattle.kit_laws.proofs.Numbers.{gained}
 use Rattle.kit_laws.proofs.Worlds.{grows_by_grant}
@@ -25,10 +25,10 @@ from k x = nat_eq x.sender k
 -- deliveries keep the aims of Retractions
 aimed_by_deliveries : (p : Parts) (i d : ℕ) (s : State) (due : List Message) → Aimed s → Aimed (after_deliveries p i d s due)
 aimed_by_deliveries p i d s [] h = h
-aimed_by_deliveries p i d s (m ∷ ms) h = aimed_by_deliveries p i d (stepped p i (Got m.group) d m.value s) ms (aimed_by_step p i (Got m.group) d m.value s h)
+aimed_by_deliveries p i d s (m ∷ ms) h = aimed_by_deliveries p i d (state_after p i (Got m.group) d m.value s) ms (aimed_by_step p i (Got m.group) d m.value s h)
 
 -- so does a grant
-pub aimed_by_grant : (p : Parts) (w : World) (g : ℕ × ℕ) → Aimed (seat_at w g.1).state → Aimed (granted_at p w g).state
+pub aimed_by_grant : (p : Parts) (w : World) (g : ℕ × ℕ) → Aimed (seat_at w g.1).state → Aimed (seat_after_pair p w g).state
 aimed_by_grant p w g h =
     let due = due_messages p g.1 g.0 (seat_at w g.1).got w.messages in
     aimed_by_step p g.1 Grant g.0 0 (after_deliveries p g.1 g.0 (seat_at w g.1).state due) (aimed_by_deliveries p g.1 g.0 (seat_at w g.1).state due h)
@@ -67,9 +67,9 @@ below_numbered w k n (m ∷ ms) h le =
     (subst P (sym h.0) (let e : m.number ≡ n = h.1 in omega arith), below_numbered w k (n + 1) ms h.2 (omega arith))
 
 -- nexts do not fall by a grant
-below_after : (p : Parts) (w : World) (g : ℕ × ℕ) (x : Message) → g.1 < length w.seats → Below w x → Below (granted p w g) x
+below_after : (p : Parts) (w : World) (g : ℕ × ℕ) (x : Message) → g.1 < length w.seats → Below w x → Below (world_after_grant p w g) x
 below_after p w g x lt h =
-    let new = granted_at p w g in
+    let new = seat_after_pair p w g in
     let P : Seat → Type 0 = λ s. x.number < s.state.next in
     elim (cases_eq x.sender g.1) [
       | inl e ↦ (let Q : ℕ → Type 0 = λ k. x.number < (get_or (set w.seats g.1 new) k nobody_seated).state.next in
@@ -80,11 +80,11 @@ below_after p w g x lt h =
     ]
 
 -- a grant keeps all of this
-pub granted_counted : (p : Parts) (w : World) (g : ℕ × ℕ) → g.1 < length w.seats → Counted w → Counted (granted p w g)
+pub granted_counted : (p : Parts) (w : World) (g : ℕ × ℕ) → g.1 < length w.seats → Counted w → Counted (world_after_grant p w g)
 granted_counted p w g lt c =
     let old = seat_at w g.1 in
-    let new = granted_at p w g in
-    let v = granted p w g in
+    let new = seat_after_pair p w g in
+    let v = world_after_grant p w g in
     let gr = grows_by_grant p w g in
     let o = c.each g.1 lt in
     let made = drop (length old.state.sends) new.state.sends in

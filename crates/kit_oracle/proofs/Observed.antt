@@ -3,7 +3,7 @@ use Rattle.std.proofs.Common.{◌≡◌, ℕ, zero, suc, ◌+◌, List, [], ◌�
 use Rattle.std.proofs.lemmas.List.{append_assoc, append-nil}
 use Rattle.kit_base.specs.declared.history.Line.{Line}
 use Rattle.kit_rules.specs.Parts.{Parts}
-use Rattle.kit_rules.specs.Simulation.{World, granted_or_same, next_grant, started, after_grants}
+use Rattle.kit_rules.specs.Simulation.{World, world_after_pair, next_grant, world_at_start, after_grants}
 use Rattle.kit_laws.proofs.Rising.{after_suc}
 use Rattle.kit_oracle.specs.Observing.{Adds}
 
@@ -37,11 +37,11 @@ module _ {O : Type 0} (shows : Parts → ℕ → List Line → O → Type 0) whe
   comes_more a b c x xs ys zs f g e end h = f end (adds_same b end (x ∷ zs) xs (sym e) (adds_more b c end (x ∷ []) zs g h))
 
   -- where nobody waits, further turns change nothing
-  pub still_shows : ((p : Parts) (n : ℕ) (ls : List Line) (s : O) → next_grant p (after_grants p n (started p)) ≡ None → shows p n ls s → shows p (n + 1) ls s)
-      → (p : Parts) (n k m : ℕ) (ls : List Line) (s : O) → n + k ≡ m → next_grant p (after_grants p n (started p)) ≡ None → shows p n ls s → shows p m ls s
+  pub still_shows : ((p : Parts) (n : ℕ) (ls : List Line) (s : O) → next_grant p (after_grants p n (world_at_start p)) ≡ None → shows p n ls s → shows p (n + 1) ls s)
+      → (p : Parts) (n k m : ℕ) (ls : List Line) (s : O) → n + k ≡ m → next_grant p (after_grants p n (world_at_start p)) ≡ None → shows p n ls s → shows p m ls s
   still_shows law p n zero m ls s e none h = let P : ℕ → Type 0 = λ t. shows p t ls s in let same : n ≡ m = omega arith in subst P same h
   still_shows law p n (suc k) m ls s e none h =
       let P : World → Type 0 = λ w. next_grant p w ≡ None in
-      let w = after_grants p n (started p) in
-      let same : w ≡ after_grants p (n + 1) (started p) = sym (ap (λ (t : ℕ). after_grants p t (started p)) (add-one n) ∙ after_suc p n (started p) ∙ ap (granted_or_same p w) none) in
+      let w = after_grants p n (world_at_start p) in
+      let same : w ≡ after_grants p (n + 1) (world_at_start p) = sym (ap (λ (t : ℕ). after_grants p t (world_at_start p)) (add-one n) ∙ after_suc p n (world_at_start p) ∙ ap (world_after_pair p w) none) in
       still_shows law p (n + 1) k m ls s (omega arith) (subst P same none) (law p n ls s none h)

@@ -9,7 +9,7 @@ use Rattle.kit_base.specs.declared.message.Message.{Message}
 use Rattle.kit_rules.specs.Parts.{Parts}
 use Rattle.kit_rules.specs.Federation.{IsFederation}
 use Rattle.kit_rules.specs.Delivery.{is_transported}
-use Rattle.kit_rules.specs.Simulation.{Seat, World, seat_at, nobody_seated, granted_at, granted, started, started_seat, after_grants}
+use Rattle.kit_rules.specs.Simulation.{Seat, World, seat_at, nobody_seated, seat_after_pair, world_after_grant, world_at_start, seat_at_start, after_grants}
 use Rattle.kit_rules.specs.Need.{is_outstanding, outstanding, need_of, needs_of}
 use Rattle.kit_laws.proofs.Numbers.{gained}
 use Rattle.kit_laws.proofs.Worlds.{grows_by_grant}
@@ -47,42 +47,42 @@ outstanding_own p k w c lt = count_own p k (seat_at w k).now w.messages ∙ ap (
 -- what one grant does to the federates' times and sends
 record Granted (p : Parts) (n : ℕ) (g : ℕ × ℕ) (made : List Message) : Type 0 where
   within : g.1 < length p.federates
-  forward : (seat_at (after_grants p n (started p)) g.1).now ≤ g.0
-  now : (seat_at (after_grants p (n + 1) (started p)) g.1).now ≡ g.0
-  sends : (seat_at (after_grants p (n + 1) (started p)) g.1).state.sends ≡ (seat_at (after_grants p n (started p)) g.1).state.sends ++ made
-  others : (k : ℕ) → k ≢ g.1 → seat_at (after_grants p (n + 1) (started p)) k ≡ seat_at (after_grants p n (started p)) k
-  few : length (seat_at (after_grants p (n + 1) (started p)) g.1).state.sends ≤ 16384
-  counted : outstanding p g.1 (after_grants p (n + 1) (started p)) ≡ sent_later p g.0 (seat_at (after_grants p (n + 1) (started p)) g.1).state.sends
+  forward : (seat_at (after_grants p n (world_at_start p)) g.1).now ≤ g.0
+  now : (seat_at (after_grants p (n + 1) (world_at_start p)) g.1).now ≡ g.0
+  sends : (seat_at (after_grants p (n + 1) (world_at_start p)) g.1).state.sends ≡ (seat_at (after_grants p n (world_at_start p)) g.1).state.sends ++ made
+  others : (k : ℕ) → k ≢ g.1 → seat_at (after_grants p (n + 1) (world_at_start p)) k ≡ seat_at (after_grants p n (world_at_start p)) k
+  few : length (seat_at (after_grants p (n + 1) (world_at_start p)) g.1).state.sends ≤ 16384
+  counted : outstanding p g.1 (after_grants p (n + 1) (world_at_start p)) ≡ sent_later p g.0 (seat_at (after_grants p (n + 1) (world_at_start p)) g.1).state.sends
 
 granted_is : (p : Parts) (n : ℕ) (g : ℕ × ℕ) (made : List Message) → IsGrant p n g made → Granted p n g made
 granted_is p n g made is =
-    let w = after_grants p n (started p) in
-    let v = after_grants p (n + 1) (started p) in
-    let r = reached_after p (0, 0) (started p) n is.federation (started_reached p is.federation) in
+    let w = after_grants p n (world_at_start p) in
+    let v = after_grants p (n + 1) (world_at_start p) in
+    let r = reached_after p (0, 0) (world_at_start p) n is.federation (started_reached p is.federation) in
     let gr = grants p r.0 w g r.1 is.next in
     let own = grows_by_grant p w g in
-    let next : v ≡ granted p w g = after_one p n (Some g) is.next in
-    let here : seat_at v g.1 ≡ granted_at p w g = ap (λ (u : World). seat_at u g.1) next ∙ get_or-set_same w.seats g.1 (granted_at p w g) nobody_seated gr.within in
-    let after : length v.seats ≡ length w.seats = ap (λ (u : World). length u.seats) next ∙ length-set w.seats g.1 (granted_at p w g) in
+    let next : v ≡ world_after_grant p w g = after_one p n (Some g) is.next in
+    let here : seat_at v g.1 ≡ seat_after_pair p w g = ap (λ (u : World). seat_at u g.1) next ∙ get_or-set_same w.seats g.1 (seat_after_pair p w g) nobody_seated gr.within in
+    let after : length v.seats ≡ length w.seats = ap (λ (u : World). length u.seats) next ∙ length-set w.seats g.1 (seat_after_pair p w g) in
     let counted = (told p (n + 1) is.federation).counted in
     let now : (seat_at v g.1).now ≡ g.0 = ap (λ (s : Seat). s.now) here in
-    let made_is : made ≡ own.made = is.sent ∙ gained g.1 (seat_at w g.1).state (granted_at p w g).state own in
+    let made_is : made ≡ own.made = is.sent ∙ gained g.1 (seat_at w g.1).state (seat_after_pair p w g).state own in
     let N : Seat → Type 0 = λ s. s.state.next ≤ 16385 in
     record {
       within = omega (arith, gr.within, r.1.count);
       forward = omega (arith, gr.forward);
       now = now;
       sends = ap (λ (s : Seat). s.state.sends) here ∙ own.sends ∙ ap (λ ms. (seat_at w g.1).state.sends ++ ms) (sym made_is);
-      others = λ k ne. ap (λ (u : World). seat_at u k) next ∙ get_or-set_other w.seats g.1 k (granted_at p w g) nobody_seated ne;
+      others = λ k ne. ap (λ (u : World). seat_at u k) next ∙ get_or-set_other w.seats g.1 k (seat_after_pair p w g) nobody_seated ne;
       few = omega (arith, (counted.each g.1 (omega (arith, gr.within, after))).next, subst N (sym here) is.room);
       counted = outstanding_own p g.1 v counted (omega (arith, gr.within, after)) ∙ ap (λ (t : ℕ). sent_later p t (seat_at v g.1).state.sends) now;
     }
 
 -- with what a federate sends at its grant, those that are later then
 later_granted : (p : Parts) (n : ℕ) (g : ℕ × ℕ) (made : List Message) (times : List (List ℕ)) (most : List ℕ) → Granted p n g made → AreNeeds p n times most → (t : ℕ) → g.0 ≤ t
-    → later t (get_or times g.1 []) + sent_later p t made ≡ sent_later p t (seat_at (after_grants p (n + 1) (started p)) g.1).state.sends
+    → later t (get_or times g.1 []) + sent_later p t made ≡ sent_later p t (seat_at (after_grants p (n + 1) (world_at_start p)) g.1).state.sends
 later_granted p n g made times most gr h t le =
-    let old = (seat_at (after_grants p n (started p)) g.1).state.sends in
+    let old = (seat_at (after_grants p n (world_at_start p)) g.1).state.sends in
     ap (λ k. k + sent_later p t made) (h.counts g.1 t gr.within (omega (arith, gr.forward)))
     ∙ sym (count_by-append (is_later p t) old made) ∙ ap (sent_later p t) (sym gr.sends)
 
@@ -91,7 +91,7 @@ pub room_to_count : (p : Parts) (n : ℕ) (g : ℕ × ℕ) (made : List Message)
     → (g.1 < length p.federates) × (later g.0 (get_or times g.1 []) + sent_later p g.0 made < 2 ^ 16)
 room_to_count p n g made times most is h =
     let gr = granted_is p n g made is in
-    let sends = (seat_at (after_grants p (n + 1) (started p)) g.1).state.sends in
+    let sends = (seat_at (after_grants p (n + 1) (world_at_start p)) g.1).state.sends in
     (gr.within, omega (arith, later_granted p n g made times most gr h g.0 (omega arith), count_by-le-length (is_later p g.0) sends, gr.few))
 
 -- the needs after one more grant
@@ -100,7 +100,7 @@ pub needs_next : (p : Parts) (n : ℕ) (g : ℕ × ℕ) (made : List Message) (t
     → AreNeeds p (n + 1) (set times g.1 new) (set most g.1 (max (get_or most g.1 0) count))
 needs_next p n g made times most new count is h kept counts =
     let gr = granted_is p n g made is in
-    let v = after_grants p (n + 1) (started p) in
+    let v = after_grants p (n + 1) (world_at_start p) in
     let top = max (get_or most g.1 0) count in
     record {
       each_times = length-set times g.1 new ∙ h.each_times;
@@ -121,15 +121,15 @@ needs_next p n g made times most new count is h kept counts =
     }
 
 -- the seats of the start, with what they have outstanding
-pub seat_started : (p : Parts) (k : ℕ) → k < length p.federates → seat_at (started p) k ≡ started_seat p k
-seat_started p k lt = get_or-map-range_with_len (started_seat p) 0 (length p.federates) k k nobody_seated lt (omega arith)
+pub seat_started : (p : Parts) (k : ℕ) → k < length p.federates → seat_at (world_at_start p) k ≡ seat_at_start p k
+seat_started p k lt = get_or-map-range_with_len (seat_at_start p) 0 (length p.federates) k k nobody_seated lt (omega arith)
 
-pub outstanding_started : (p : Parts) (k : ℕ) → IsFederation p → k < length p.federates → most_until p k 0 ≡ sent_later p 0 (seat_at (started p) k).state.sends
+pub outstanding_started : (p : Parts) (k : ℕ) → IsFederation p → k < length p.federates → most_until p k 0 ≡ sent_later p 0 (seat_at (world_at_start p) k).state.sends
 outstanding_started p k f lt =
-    let own = outstanding_own p k (started p) (told p 0 f).counted (omega (arith, lt, length-map-range_with_len (started_seat p) 0 (length p.federates))) in
-    let now : (seat_at (started p) k).now ≡ 0 = ap (λ (s : Seat). s.now) (seat_started p k lt) in
-    let most : max 0 (outstanding p k (started p)) ≡ outstanding p k (started p) = omega arith in
-    most ∙ own ∙ ap (λ (t : ℕ). sent_later p t (seat_at (started p) k).state.sends) now
+    let own = outstanding_own p k (world_at_start p) (told p 0 f).counted (omega (arith, lt, length-map-range_with_len (seat_at_start p) 0 (length p.federates))) in
+    let now : (seat_at (world_at_start p) k).now ≡ 0 = ap (λ (s : Seat). s.now) (seat_started p k lt) in
+    let most : max 0 (outstanding p k (world_at_start p)) ≡ outstanding p k (world_at_start p) = omega arith in
+    most ∙ own ∙ ap (λ (t : ℕ). sent_later p t (seat_at (world_at_start p) k).state.sends) now
 
 -- what holds at each place of a list, and of one more item, holds at each place of the list with it
 pub each_pushed : {X : Type 0} (P : ℕ → X → Type 0) (xs : List X) (x d : X) (n : ℕ) → length xs ≡ n → ((k : ℕ) → k < n → P k (get_or xs k d)) → P n x → (k : ℕ) → k < n + 1 → P k (get_or (xs ++ x ∷ []) k d)
@@ -140,12 +140,12 @@ each_pushed P xs x d n e h here k lt =
     ]
 
 -- the needs at the start
-pub needs_started : (p : Parts) (ds : List Desk) (times : List (List ℕ)) (most : List ℕ) (n : ℕ) → IsFederation p → ds ≡ desks_of p (started p) → length ds ≤ n → length times ≡ n → length most ≡ n
+pub needs_started : (p : Parts) (ds : List Desk) (times : List (List ℕ)) (most : List ℕ) (n : ℕ) → IsFederation p → ds ≡ desks_of p (world_at_start p) → length ds ≤ n → length times ≡ n → length most ≡ n
     → ((k t : ℕ) → k < n → later t (get_or times k []) ≡ sent_later p t (desk_at ds k).state.sends) → ((k : ℕ) → k < n → get_or most k 0 ≡ sent_later p 0 (desk_at ds k).state.sends) → n ≤ length ds
     → AreNeeds p 0 times most
 needs_started p ds times most n f e le each_times each_most counts greatest up =
-    let w = started p in
-    let seats : length w.seats ≡ length p.federates = length-map-range_with_len (started_seat p) 0 (length p.federates) in
+    let w = world_at_start p in
+    let seats : length w.seats ≡ length p.federates = length-map-range_with_len (seat_at_start p) 0 (length p.federates) in
     let count : length ds ≡ length p.federates = ap (λ (xs : List Desk). length xs) e ∙ length_shown p w.messages 0 w.seats ∙ seats in
     let desk : (k : ℕ) → k < length p.federates → (desk_at ds k).state.sends ≡ (seat_at w k).state.sends = λ k lt.
     ap (λ xs. (desk_at xs k).state.sends) e ∙ ap (λ (d : Desk). d.state.sends) (desk_shown p w k (omega (arith, lt, seats))) in

@@ -8,7 +8,7 @@ use Rattle.kit_base.specs.declared.message.Message.{Message}
 use Rattle.kit_rules.specs.Parts.{Parts}
 use Rattle.kit_rules.specs.Step.{is_event}
 use Rattle.kit_base.specs.Order.{put, in_order}
-use Rattle.kit_rules.specs.Delivery.{is_same, retracts, is_transported, has_bit, receivers_of, is_pending, pending}
+use Rattle.kit_rules.specs.Delivery.{is_same, retracts, is_transported, has_bit, receivers_of, is_pending, pending_messages}
 use Rattle.kit_oracle.proofs.Fronts.{filter_in_order, filter_same, filter_both, any_both}
 
 -- the last message is put in its place last
@@ -42,16 +42,16 @@ itself p j got sent m e fresh kept =
 
 -- an Event goes to its place, where the federate receives it
 pub event_posted : (p : Parts) (j : ℕ) (got sent : List Message) (m : Message) → is_event m.kind ≡ true → list_any (is_same m) got ≡ false → list_any (retracts m) sent ≡ false
-    → in_order (pending p j got (sent ++ m ∷ [])) ≡ cond (is_transported p m && has_bit (receivers_of p m.sender m.group) j) (put m (in_order (pending p j got sent))) (in_order (pending p j got sent))
+    → in_order (pending_messages p j got (sent ++ m ∷ [])) ≡ cond (is_transported p m && has_bit (receivers_of p m.sender m.group) j) (put m (in_order (pending_messages p j got sent))) (in_order (pending_messages p j got sent))
 event_posted p j got sent m e fresh kept =
     let q = is_pending p j got (sent ++ m ∷ []) in
     ap in_order (filter-append q sent (m ∷ []) ∙ ap (λ xs. xs ++ filter q (m ∷ [])) (filter_same q (is_pending p j got sent) sent (same_each p j got sent sent m e))
-    ∙ ap (λ b. pending p j got sent ++ cond b (m ∷ []) []) (itself p j got sent m e fresh kept))
+    ∙ ap (λ b. pending_messages p j got sent ++ cond b (m ∷ []) []) (itself p j got sent m e fresh kept))
     ∙ last (is_transported p m && has_bit (receivers_of p m.sender m.group) j)
   where
-    last : (b : Bool) → in_order (pending p j got sent ++ cond b (m ∷ []) []) ≡ cond b (put m (in_order (pending p j got sent))) (in_order (pending p j got sent))
-    last true = in_order_push [] (pending p j got sent) m
-    last false = ap in_order (append-nil (pending p j got sent))
+    last : (b : Bool) → in_order (pending_messages p j got sent ++ cond b (m ∷ []) []) ≡ cond b (put m (in_order (pending_messages p j got sent))) (in_order (pending_messages p j got sent))
+    last true = in_order_push [] (pending_messages p j got sent) m
+    last false = ap in_order (append-nil (pending_messages p j got sent))
 
 -- one more Retraction leaves pending what it does not name
 retracted_each : (p : Parts) (j : ℕ) (got sent xs : List Message) (r : Message) → AllByRecursion (λ x. is_pending p j got (sent ++ r ∷ []) x ≡ (not (retracts x r) && is_pending p j got sent x)) xs
@@ -75,11 +75,11 @@ retracted_each p j got sent (x ∷ xs) r =
 
 -- a Retraction takes out what it names
 pub retraction_posted : (p : Parts) (j : ℕ) (got sent : List Message) (r : Message) → is_event r.kind ≡ false
-    → in_order (pending p j got (sent ++ r ∷ [])) ≡ filter (λ x. not (retracts x r)) (in_order (pending p j got sent))
+    → in_order (pending_messages p j got (sent ++ r ∷ [])) ≡ filter (λ x. not (retracts x r)) (in_order (pending_messages p j got sent))
 retraction_posted p j got sent r e =
     let q = is_pending p j got (sent ++ r ∷ []) in
     let none : q r ≡ false = ap (λ b. b && is_transported p r && has_bit (receivers_of p r.sender r.group) j && not (list_any (is_same r) got) && not (list_any (retracts r) (sent ++ r ∷ []))) e in
     ap in_order (filter-append q sent (r ∷ []) ∙ ap (λ b. filter q sent ++ cond b (r ∷ []) []) none ∙ append-nil (filter q sent)
     ∙ filter_same q (λ x. not (retracts x r) && is_pending p j got sent x) sent (retracted_each p j got sent sent r)
     ∙ filter_both (λ x. not (retracts x r)) (is_pending p j got sent) sent)
-    ∙ sym (filter_in_order (λ x. not (retracts x r)) (pending p j got sent))
+    ∙ sym (filter_in_order (λ x. not (retracts x r)) (pending_messages p j got sent))

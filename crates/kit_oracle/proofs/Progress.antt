@@ -12,7 +12,7 @@ use Rattle.kit_rules.specs.Federation.{IsFederation}
 use Rattle.kit_rules.specs.declared.scene.ApplyEnd.{ApplyEnd}
 use Rattle.kit_rules.specs.declared.scene.ApplyEnd.TheVariants as apply
 use Rattle.kit_rules.specs.Delivery.{due_messages}
-use Rattle.kit_rules.specs.Simulation.{Seat, World, Block, least, started, started_seat, seat_at, granted, granted_or_same, next_grant, advanced, after_grants, simulated, block, block_lines, lines_of, is_spent, spender, closing_vars}
+use Rattle.kit_rules.specs.Simulation.{Seat, World, Block, least_pair, world_at_start, seat_at_start, seat_at, world_after_grant, world_after_pair, next_grant, next_world, after_grants, simulation, block, block_lines, lines_of, is_spent, spender, closing_vars}
 use Rattle.kit_laws.specs.Sane.{IsSane}
 use Rattle.kit_laws.proofs.Rising.{after_suc}
 use Rattle.kit_laws.proofs.Sanity.{granted_sane, next_fine}
@@ -46,39 +46,39 @@ shown_behind p a k [] s = refl
 shown_behind p a k (x ∷ ss) s = ap (λ ds. shown p [] a x ∷ ds) (shown_behind p (a + 1) k ss s)
 
 -- one more desk is opened
-pub shown_more : (p : Parts) (i : ℕ) → shown_from p [] 0 (map (started_seat p) (range_with_len 0 (i + 1))) ≡ shown_from p [] 0 (map (started_seat p) (range_with_len 0 i)) ++ shown p [] i (started_seat p i) ∷ []
-shown_more p i = ap (shown_from p [] 0) (map-range_with_len_more (started_seat p) 0 i i (omega arith)) ∙ shown_behind p 0 i (map (started_seat p) (range_with_len 0 i)) (started_seat p i)
+pub shown_more : (p : Parts) (i : ℕ) → shown_from p [] 0 (map (seat_at_start p) (range_with_len 0 (i + 1))) ≡ shown_from p [] 0 (map (seat_at_start p) (range_with_len 0 i)) ++ shown p [] i (seat_at_start p i) ∷ []
+shown_more p i = ap (shown_from p [] 0) (map-range_with_len_more (seat_at_start p) 0 i i (omega arith)) ∙ shown_behind p 0 i (map (seat_at_start p) (range_with_len 0 i)) (seat_at_start p i)
 
 -- the desks at the start, with what was sent there posted
-pub start_shown : (p : Parts) → IsFederation p → all_posted p (started p).messages (shown_from p [] 0 (started p).seats) ≡ desks_of p (started p)
-start_shown p f = post_each p (started p).seats [] (started p).messages (start_fresh p f)
+pub start_shown : (p : Parts) → IsFederation p → all_posted p (world_at_start p).messages (shown_from p [] 0 (world_at_start p).seats) ≡ desks_of p (world_at_start p)
+start_shown p f = post_each p (world_at_start p).seats [] (world_at_start p).messages (start_fresh p f)
 
 -- there are no more desks than federates
-pub few_opened : (p : Parts) → IsFederation p → length (shown_from p [] 0 (started p).seats) ≤ 16
-few_opened p f = omega (arith, length_shown p [] 0 (started p).seats, length-map-range_with_len (started_seat p) 0 (length p.federates), f.federates.count.1)
+pub few_opened : (p : Parts) → IsFederation p → length (shown_from p [] 0 (world_at_start p).seats) ≤ 16
+few_opened p f = omega (arith, length_shown p [] 0 (world_at_start p).seats, length-map-range_with_len (seat_at_start p) 0 (length p.federates), f.federates.count.1)
 
 -- what the desks of a run show after n grants
 pub record Shows (p : Parts) (n : ℕ) (ds : List Desk) : Type 0 where
-  pub desks : ds ≡ desks_of p (after_grants p n (started p))
-  pub none : find is_spent (after_grants p n (started p)).messages ≡ None
-  pub sane : IsSane p (after_grants p n (started p)).seats
+  pub desks : ds ≡ desks_of p (after_grants p n (world_at_start p))
+  pub none : find is_spent (after_grants p n (world_at_start p)).messages ≡ None
+  pub sane : IsSane p (after_grants p n (world_at_start p)).seats
 
 -- there are as many desks as federates
 pub few_desks : (p : Parts) (n : ℕ) (ds : List Desk) → Shows p n ds → length ds ≡ length p.federates
 few_desks p n ds s =
-    let w = after_grants p n (started p) in
+    let w = after_grants p n (world_at_start p) in
     ap (λ (xs : List Desk). length xs) s.desks ∙ length_shown p w.messages 0 w.seats ∙ s.sane.count
 
 -- the next grant, as it is found among the desks
-pub next_found : (p : Parts) (n : ℕ) (ds : List Desk) (end : ℕ) (r : Option (ℕ × ℕ)) → Shows p n ds → end ≡ p.end → r ≡ least None (waiting_at end 0 ds) → next_grant p (after_grants p n (started p)) ≡ r
+pub next_found : (p : Parts) (n : ℕ) (ds : List Desk) (end : ℕ) (r : Option (ℕ × ℕ)) → Shows p n ds → end ≡ p.end → r ≡ least_pair None (waiting_at end 0 ds) → next_grant p (after_grants p n (world_at_start p)) ≡ r
 next_found p n ds end r s e h =
-    let w = after_grants p n (started p) in
-    ap (least None) (sym (waiting_shown p w.messages 0 w.seats)) ∙ ap (λ xs. least None (waiting_at p.end 0 xs)) (sym s.desks) ∙ ap (λ (t : ℕ). least None (waiting_at t 0 ds)) (sym e) ∙ sym h
+    let w = after_grants p n (world_at_start p) in
+    ap (least_pair None) (sym (waiting_shown p w.messages 0 w.seats)) ∙ ap (λ xs. least_pair None (waiting_at p.end 0 xs)) (sym s.desks) ∙ ap (λ (t : ℕ). least_pair None (waiting_at t 0 ds)) (sym e) ∙ sym h
 
 -- the next grant goes to a federate there is, by the end
-pub next_fits : (p : Parts) (n : ℕ) (ds : List Desk) (g : ℕ × ℕ) → Shows p n ds → next_grant p (after_grants p n (started p)) ≡ Some g → (g.1 < length p.federates) × (g.0 ≤ p.end)
+pub next_fits : (p : Parts) (n : ℕ) (ds : List Desk) (g : ℕ × ℕ) → Shows p n ds → next_grant p (after_grants p n (world_at_start p)) ≡ Some g → (g.1 < length p.federates) × (g.0 ≤ p.end)
 next_fits p n ds g s next =
-    let w = after_grants p n (started p) in
+    let w = after_grants p n (world_at_start p) in
     let fine = next_fine p w.messages w.seats g s.sane next in
     (omega (arith, fine.0, s.sane.count), fine.1)
 
@@ -86,41 +86,41 @@ next_fits p n ds g s next =
 after_more : (p : Parts) (a b n : ℕ) (w : World) → a + b ≡ n → after_grants p n w ≡ after_grants p b (after_grants p a w)
 after_more p zero b n w e = ap (λ (k : ℕ). after_grants p k w) (let is : n ≡ b = omega arith in is)
 after_more p (suc a) b zero w e = absurd (omega arith)
-after_more p (suc a) b (suc n) w e = after_more p a b n (advanced p w) (omega arith)
+after_more p (suc a) b (suc n) w e = after_more p a b n (next_world p w) (omega arith)
 
 -- a turn below the most, which is computed
 pub turn_within : (n a b c d : ℕ) → n < a * b → a ≡ c → b ≡ d → n < c * d
 turn_within n a b c d lt e f = let is : a * b ≡ c * d = cc in omega arith
 
 -- where nobody waits, the run is over
-pub over_here : (p : Parts) (n : ℕ) → n ≤ length p.federates * p.end → next_grant p (after_grants p n (started p)) ≡ None → after_grants p n (started p) ≡ simulated p
+pub over_here : (p : Parts) (n : ℕ) → n ≤ length p.federates * p.end → next_grant p (after_grants p n (world_at_start p)) ≡ None → after_grants p n (world_at_start p) ≡ simulation p
 over_here p n le next =
     let most = length p.federates * p.end in
-    sym (after_more p n (most - n) most (started p) (omega arith) ∙ after_none p (most - n) (after_grants p n (started p)) next)
+    sym (after_more p n (most - n) most (world_at_start p) (omega arith) ∙ after_none p (most - n) (after_grants p n (world_at_start p)) next)
 
 -- one more turn is one more grant
-one_more : (p : Parts) (n : ℕ) (g : ℕ × ℕ) → next_grant p (after_grants p n (started p)) ≡ Some g → after_grants p (n + 1) (started p) ≡ granted p (after_grants p n (started p)) g
+one_more : (p : Parts) (n : ℕ) (g : ℕ × ℕ) → next_grant p (after_grants p n (world_at_start p)) ≡ Some g → after_grants p (n + 1) (world_at_start p) ≡ world_after_grant p (after_grants p n (world_at_start p)) g
 one_more p n g next =
-    let w = after_grants p n (started p) in
-    ap (λ (k : ℕ). after_grants p k (started p)) (add-one n) ∙ after_suc p n (started p) ∙ ap (granted_or_same p w) next
+    let w = after_grants p n (world_at_start p) in
+    ap (λ (k : ℕ). after_grants p k (world_at_start p)) (add-one n) ∙ after_suc p n (world_at_start p) ∙ ap (world_after_pair p w) next
 
 -- one more block has its lines last
 lines_more : (bs : List Block) (b : Block) → lines_of (bs ++ b ∷ []) ≡ lines_of bs ++ block_lines b
 lines_more bs b = flat_map-append block_lines bs (b ∷ []) ∙ ap (λ ls. lines_of bs ++ ls) (append-nil (block_lines b))
 
 -- what is at the front of the queue of the federate that is granted
-front_of_next : (p : Parts) (n : ℕ) (ds : List Desk) (g : ℕ × ℕ) → Shows p n ds → next_grant p (after_grants p n (started p)) ≡ Some g
-    → front g.0 (desk_at ds g.1).queue ≡ due_messages p g.1 g.0 (seat_at (after_grants p n (started p)) g.1).got (after_grants p n (started p)).messages
+front_of_next : (p : Parts) (n : ℕ) (ds : List Desk) (g : ℕ × ℕ) → Shows p n ds → next_grant p (after_grants p n (world_at_start p)) ≡ Some g
+    → front g.0 (desk_at ds g.1).queue ≡ due_messages p g.1 g.0 (seat_at (after_grants p n (world_at_start p)) g.1).got (after_grants p n (world_at_start p)).messages
 front_of_next p n ds g s next =
-    let w = after_grants p n (started p) in
+    let w = after_grants p n (world_at_start p) in
     let within = (next_fine p w.messages w.seats g s.sane next).0 in
     ap (λ xs. front g.0 (desk_at xs g.1).queue) s.desks ∙ ap (λ (d : Desk). front g.0 d.queue) (desk_shown p w g.1 within) ∙ front_is_due p g.1 g.0 (seat_at w g.1).got w.messages
 
 -- the lines after one more grant
-pub lines_next : (p : Parts) (n : ℕ) (ds : List Desk) (g : ℕ × ℕ) → Shows p n ds → next_grant p (after_grants p n (started p)) ≡ Some g
-    → (lines_of (after_grants p n (started p)).blocks ++ map (line.Deliver g.0 g.1) (front g.0 (desk_at ds g.1).queue)) ++ line.Grant g.0 g.1 ∷ [] ≡ lines_of (after_grants p (n + 1) (started p)).blocks
+pub lines_next : (p : Parts) (n : ℕ) (ds : List Desk) (g : ℕ × ℕ) → Shows p n ds → next_grant p (after_grants p n (world_at_start p)) ≡ Some g
+    → (lines_of (after_grants p n (world_at_start p)).blocks ++ map (line.Deliver g.0 g.1) (front g.0 (desk_at ds g.1).queue)) ++ line.Grant g.0 g.1 ∷ [] ≡ lines_of (after_grants p (n + 1) (world_at_start p)).blocks
 lines_next p n ds g s next =
-    let w = after_grants p n (started p) in
+    let w = after_grants p n (world_at_start p) in
     let due = due_messages p g.1 g.0 (seat_at w g.1).got w.messages in
     append_assoc (lines_of w.blocks) (map (line.Deliver g.0 g.1) (front g.0 (desk_at ds g.1).queue)) (line.Grant g.0 g.1 ∷ [])
     ∙ ap (λ ms. lines_of w.blocks ++ block_lines (block g.1 g.0 ms)) (front_of_next p n ds g s next)
@@ -128,10 +128,10 @@ lines_next p n ds g s next =
     ∙ ap (λ (v : World). lines_of v.blocks) (sym (one_more p n g next))
 
 -- an observer is told of this grant
-pub told_of : (p : Parts) (n : ℕ) (ds : List Desk) (made : List Message) (g : ℕ × ℕ) → IsFederation p → Shows p n ds → next_grant p (after_grants p n (started p)) ≡ Some g
+pub told_of : (p : Parts) (n : ℕ) (ds : List Desk) (made : List Message) (g : ℕ × ℕ) → IsFederation p → Shows p n ds → next_grant p (after_grants p n (world_at_start p)) ≡ Some g
     → made ≡ drop (length (desk_at ds g.1).state.sends) (turned_at p g ds).state.sends → (turned_at p g ds).state.next ≤ 16385 → IsGrant p n g made
 told_of p n ds made g f s next is room =
-    let w = after_grants p n (started p) in
+    let w = after_grants p n (world_at_start p) in
     let within = (next_fine p w.messages w.seats g s.sane next).0 in
     let R : Desk → Type 0 = λ d. d.state.next ≤ 16385 in
     let desk : desk_at ds g.1 ≡ shown p w.messages g.1 (seat_at w g.1) = ap (λ xs. desk_at xs g.1) s.desks ∙ desk_shown p w g.1 within in
@@ -144,13 +144,13 @@ told_of p n ds made g f s next is room =
     }
 
 -- one more grant shows one more grant
-pub granted_shows : (p : Parts) (n : ℕ) (ds es : List Desk) (g : ℕ × ℕ) → IsFederation p → Shows p n ds → next_grant p (after_grants p n (started p)) ≡ Some g
+pub granted_shows : (p : Parts) (n : ℕ) (ds es : List Desk) (g : ℕ × ℕ) → IsFederation p → Shows p n ds → next_grant p (after_grants p n (world_at_start p)) ≡ Some g
     → es ≡ after_grant p g ds → (turned_at p g ds).state.next ≤ 16385 → Shows p (n + 1) es
 granted_shows p n ds es g f s next de room =
-    let w = after_grants p n (started p) in
-    let v = granted p w g in
+    let w = after_grants p n (world_at_start p) in
+    let v = world_after_grant p w g in
     let within = (next_fine p w.messages w.seats g s.sane next).0 in
-    let after : v ≡ after_grants p (n + 1) (started p) = sym (one_more p n g next) in
+    let after : v ≡ after_grants p (n + 1) (world_at_start p) = sym (one_more p n g next) in
     let D : World → Type 0 = λ u. es ≡ desks_of p u in
     let N : World → Type 0 = λ u. find is_spent u.messages ≡ None in
     let S : World → Type 0 = λ u. IsSane p u.seats in
@@ -163,17 +163,17 @@ granted_shows p n ds es g f s next de room =
     }
 
 -- a grant that goes past number 16,384 is the first to do so
-pub spent_here : (p : Parts) (n : ℕ) (ds : List Desk) (g : ℕ × ℕ) → Shows p n ds → n < length p.federates * p.end → next_grant p (after_grants p n (started p)) ≡ Some g
+pub spent_here : (p : Parts) (n : ℕ) (ds : List Desk) (g : ℕ × ℕ) → Shows p n ds → n < length p.federates * p.end → next_grant p (after_grants p n (world_at_start p)) ≡ Some g
     → (desk_at ds g.1).state.next ≤ 16385 → 16385 < (turned_at p g ds).state.next → spender p ≡ Some g.1
 spent_here p n ds g s lt next room past =
-    let w = after_grants p n (started p) in
+    let w = after_grants p n (world_at_start p) in
     let most = length p.federates * p.end in
     let within = (next_fine p w.messages w.seats g s.sane next).0 in
     let R : Desk → Type 0 = λ d. d.state.next ≤ 16385 in
     let Q : Desk → Type 0 = λ d. 16385 < d.state.next in
-    let goes : after_grants p (most - (n + 1)) (granted p w g) ≡ simulated p =
-    ap (after_grants p (most - (n + 1))) (sym (one_more p n g next)) ∙ sym (after_more p (n + 1) (most - (n + 1)) most (started p) (omega arith)) in
-    spender_from p (most - (n + 1)) (granted p w g) g.1 goes
+    let goes : after_grants p (most - (n + 1)) (world_after_grant p w g) ≡ simulation p =
+    ap (after_grants p (most - (n + 1))) (sym (one_more p n g next)) ∙ sym (after_more p (n + 1) (most - (n + 1)) most (world_at_start p) (omega arith)) in
+    spender_from p (most - (n + 1)) (world_after_grant p w g) g.1 goes
     (granted_find p w g s.none (subst R (ap (λ xs. desk_at xs g.1) s.desks ∙ desk_shown p w g.1 within) room) (subst Q (ap (turned_at p g) s.desks ∙ turn_shown p w g within) past))
 
 -- the closing variables stand on the desks

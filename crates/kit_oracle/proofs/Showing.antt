@@ -10,8 +10,8 @@ use Rattle.kit_rules.specs.declared.table.Request.{Request}
 use Rattle.kit_rules.specs.declared.table.Request.TheVariants as request
 use Rattle.kit_rules.specs.Parts.{Parts}
 use Rattle.kit_rules.specs.Step.{is_event}
-use Rattle.kit_rules.specs.Delivery.{has_bit, receivers_of, is_transported, is_same, retracts, is_pending, pending, due_messages, due_time}
-use Rattle.kit_rules.specs.Simulation.{Seat, World, request_at, after_block, seat_due, waiting_from, granted_seat, granted_at, granted, seat_at, nobody_seated}
+use Rattle.kit_rules.specs.Delivery.{has_bit, receivers_of, is_transported, is_same, retracts, is_pending, pending_messages, due_messages, due_time}
+use Rattle.kit_rules.specs.Simulation.{Seat, World, request_at, after_block, seat_due, waiting_from, seat_after_grant, seat_after_pair, world_after_grant, seat_at, nobody_seated}
 use Rattle.kit_laws.proofs.Fitting.{all_in_order}
 use Rattle.kit_oracle.specs.declared.desk.Desk.{Desk}
 use Rattle.kit_oracle.specs.Queues.{enter, behind, posted, taken_out}
@@ -30,7 +30,7 @@ due_shown (request.Ner t) ms = sym (due_is_first t ms)
 pub waiting_shown : (p : Parts) (sent : List Message) (i : ℕ) (ss : List Seat) → waiting_at p.end i (shown_from p sent i ss) ≡ waiting_from p sent i ss
 waiting_shown p sent i [] = refl
 waiting_shown p sent i (s ∷ ss) =
-    ap (λ (t : ℕ). cond (nat_lt s.now p.end) ((t, i) ∷ waiting_at p.end (i + 1) (shown_from p sent (i + 1) ss)) (waiting_at p.end (i + 1) (shown_from p sent (i + 1) ss))) (due_shown s.request (pending p i s.got sent))
+    ap (λ (t : ℕ). cond (nat_lt s.now p.end) ((t, i) ∷ waiting_at p.end (i + 1) (shown_from p sent (i + 1) ss)) (waiting_at p.end (i + 1) (shown_from p sent (i + 1) ss))) (due_shown s.request (pending_messages p i s.got sent))
     ∙ ap (λ (xs : List (ℕ × ℕ)). cond (nat_lt s.now p.end) ((seat_due p sent i s, i) ∷ xs) xs) (waiting_shown p sent (i + 1) ss)
 
 -- there are as many desks as seats
@@ -51,9 +51,9 @@ set_shown p sent a zero n (x ∷ ss) s e = ap (λ i. shown p sent i s ∷ shown_
 set_shown p sent a (suc k) n (x ∷ ss) s e = ap (λ xs. shown p sent a x ∷ xs) (set_shown p sent (a + 1) k n ss s (omega arith))
 
 -- a desk's turn is the grant to its seat
-turned_shown : (p : Parts) (i d : ℕ) (sent : List Message) (s : Seat) → turned p i d (shown p sent i s) ≡ shown p sent i (granted_seat p i d sent s)
+turned_shown : (p : Parts) (i d : ℕ) (sent : List Message) (s : Seat) → turned p i d (shown p sent i s) ≡ shown p sent i (seat_after_grant p i d sent s)
 turned_shown p i d sent s =
-    let queue = in_order (pending p i s.got sent) in
+    let queue = in_order (pending_messages p i s.got sent) in
     let made : List Message → List Message → Desk = λ due q.
     let after = after_block p i d s.state due in
     record { now = d; request = cond (nat_lt d p.end) (request_at after.wish d p.end) s.request; state = after; queue = q } in
@@ -96,24 +96,24 @@ all_among q [] h = refl
 all_among q (x ∷ xs) h = rw h.0 (all_among q xs h.1)
 
 -- what is pending is among what was sent
-among : (P : Message → Type 0) (p : Parts) (j : ℕ) (got sent : List Message) → AllByRecursion P sent → AllByRecursion P (in_order (pending p j got sent))
-among P p j got sent h = all_in_order P [] (pending p j got sent) tt (all_filter P (is_pending p j got sent) sent h)
+among : (P : Message → Type 0) (p : Parts) (j : ℕ) (got sent : List Message) → AllByRecursion P sent → AllByRecursion P (in_order (pending_messages p j got sent))
+among P p j got sent h = all_in_order P [] (pending_messages p j got sent) tt (all_filter P (is_pending p j got sent) sent h)
 
 -- one more message sent, at one queue
 post_queue : (p : Parts) (j : ℕ) (got sent : List Message) (m : Message) → list_any (is_same m) got ≡ false → list_any (retracts m) sent ≡ false → list_any (is_same m) sent ≡ false
-    → (is_event m.kind ≡ false → AllByRecursion (Timed m) sent) → posted (reached p m) j m (in_order (pending p j got sent)) ≡ in_order (pending p j got (sent ++ m ∷ []))
+    → (is_event m.kind ≡ false → AllByRecursion (Timed m) sent) → posted (reached p m) j m (in_order (pending_messages p j got sent)) ≡ in_order (pending_messages p j got (sent ++ m ∷ []))
 post_queue p j got sent m fresh kept new timed = by_kind (is_event m.kind) refl
   where
-    by_kind : (b : Bool) → is_event m.kind ≡ b → posted (reached p m) j m (in_order (pending p j got sent)) ≡ in_order (pending p j got (sent ++ m ∷ []))
+    by_kind : (b : Bool) → is_event m.kind ≡ b → posted (reached p m) j m (in_order (pending_messages p j got sent)) ≡ in_order (pending_messages p j got (sent ++ m ∷ []))
     by_kind true e =
-        ap (λ b. cond b (cond (has_bit (reached p m) j) (enter m (in_order (pending p j got sent))) (in_order (pending p j got sent))) (taken_out m.time m.sender m.value (in_order (pending p j got sent)))) e
-        ∙ ap (λ b. cond b (enter m (in_order (pending p j got sent))) (in_order (pending p j got sent))) (bit_reached p m j)
-        ∙ ap (λ xs. cond (is_transported p m && has_bit (receivers_of p m.sender m.group) j) xs (in_order (pending p j got sent)))
-        (enter_new m (in_order (pending p j got sent)) (all_among (is_same m) (in_order (pending p j got sent)) (among (λ x. is_same m x ≡ false) p j got sent (none_among (is_same m) sent new))))
+        ap (λ b. cond b (cond (has_bit (reached p m) j) (enter m (in_order (pending_messages p j got sent))) (in_order (pending_messages p j got sent))) (taken_out m.time m.sender m.value (in_order (pending_messages p j got sent)))) e
+        ∙ ap (λ b. cond b (enter m (in_order (pending_messages p j got sent))) (in_order (pending_messages p j got sent))) (bit_reached p m j)
+        ∙ ap (λ xs. cond (is_transported p m && has_bit (receivers_of p m.sender m.group) j) xs (in_order (pending_messages p j got sent)))
+        (enter_new m (in_order (pending_messages p j got sent)) (all_among (is_same m) (in_order (pending_messages p j got sent)) (among (λ x. is_same m x ≡ false) p j got sent (none_among (is_same m) sent new))))
         ∙ sym (event_posted p j got sent m e fresh kept)
     by_kind false e =
-        ap (λ b. cond b (cond (has_bit (reached p m) j) (enter m (in_order (pending p j got sent))) (in_order (pending p j got sent))) (taken_out m.time m.sender m.value (in_order (pending p j got sent)))) e
-        ∙ sym (retraction_by_key m (in_order (pending p j got sent)) e (among (Timed m) p j got sent (timed e)))
+        ap (λ b. cond b (cond (has_bit (reached p m) j) (enter m (in_order (pending_messages p j got sent))) (in_order (pending_messages p j got sent))) (taken_out m.time m.sender m.value (in_order (pending_messages p j got sent)))) e
+        ∙ sym (retraction_by_key m (in_order (pending_messages p j got sent)) e (among (Timed m) p j got sent (timed e)))
         ∙ sym (retraction_posted p j got sent m e)
 
 -- and at all desks
@@ -137,15 +137,15 @@ pub desk_shown : (p : Parts) (w : World) (i : ℕ) → i < length w.seats → de
 desk_shown p w i lt = at_shown p w.messages 0 i i w.seats (omega arith) lt
 
 -- and so it does after its turn
-pub turn_shown : (p : Parts) (w : World) (g : ℕ × ℕ) → g.1 < length w.seats → turned_at p g (desks_of p w) ≡ shown p w.messages g.1 (granted_at p w g)
+pub turn_shown : (p : Parts) (w : World) (g : ℕ × ℕ) → g.1 < length w.seats → turned_at p g (desks_of p w) ≡ shown p w.messages g.1 (seat_after_pair p w g)
 turn_shown p w g lt = ap (turned p g.1 g.0) (desk_shown p w g.1 lt) ∙ turned_shown p g.1 g.0 w.messages (seat_at w g.1)
 
 -- a grant to the desks is the grant to the world
-pub grant_shown : (p : Parts) (w : World) (g : ℕ × ℕ) → g.1 < length w.seats → AreFresh (granted p w g).seats w.messages (drop (length (seat_at w g.1).state.sends) (granted_at p w g).state.sends)
-    → after_grant p g (desks_of p w) ≡ desks_of p (granted p w g)
+pub grant_shown : (p : Parts) (w : World) (g : ℕ × ℕ) → g.1 < length w.seats → AreFresh (world_after_grant p w g).seats w.messages (drop (length (seat_at w g.1).state.sends) (seat_after_pair p w g).state.sends)
+    → after_grant p g (desks_of p w) ≡ desks_of p (world_after_grant p w g)
 grant_shown p w g lt fresh =
     let ds = desks_of p w in
     let whole : Desk → Desk → List Desk = λ old new. all_posted p (drop (length old.state.sends) new.state.sends) (set ds g.1 new) in
     ap (λ old. whole old (turned_at p g ds)) (desk_shown p w g.1 lt) ∙ ap (whole (shown p w.messages g.1 (seat_at w g.1))) (turn_shown p w g lt)
-    ∙ ap (all_posted p (drop (length (seat_at w g.1).state.sends) (granted_at p w g).state.sends)) (sym (set_shown p w.messages 0 g.1 g.1 w.seats (granted_at p w g) (omega arith)))
-    ∙ post_each p (granted p w g).seats w.messages (drop (length (seat_at w g.1).state.sends) (granted_at p w g).state.sends) fresh
+    ∙ ap (all_posted p (drop (length (seat_at w g.1).state.sends) (seat_after_pair p w g).state.sends)) (sym (set_shown p w.messages 0 g.1 g.1 w.seats (seat_after_pair p w g) (omega arith)))
+    ∙ post_each p (world_after_grant p w g).seats w.messages (drop (length (seat_at w g.1).state.sends) (seat_after_pair p w g).state.sends) fresh

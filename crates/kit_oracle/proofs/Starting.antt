@@ -16,7 +16,7 @@ use Rattle.kit_rules.specs.Step.{is_event, opening_state}
 use Rattle.kit_rules.proofs.Growth.{AreNumbered}
 use Rattle.kit_rules.proofs.Backs.{Aimed, Aims, aimed_by_step, one_time}
 use Rattle.kit_rules.specs.Delivery.{is_same, retracts}
-use Rattle.kit_rules.specs.Simulation.{Seat, World, started, started_seat, seat_at, nobody_seated, granted_at, granted, granted_or_same, next_grant, advanced, after_grants}
+use Rattle.kit_rules.specs.Simulation.{Seat, World, world_at_start, seat_at_start, seat_at, nobody_seated, seat_after_pair, world_after_grant, world_after_pair, next_grant, next_world, after_grants}
 use Rattle.kit_oracle.specs.Queues.{has_key, taken_out}
 use Rattle.kit_laws.proofs.Worlds.{grows_by_start}
 use Rattle.kit_oracle.proofs.Fronts.{filter_same}
@@ -24,67 +24,67 @@ use Rattle.kit_oracle.proofs.Numbering.{from, Below, OwnSends, Counted, filter_o
 
 -- what the federates from number a on send at the start
 abbrev starts : Parts → ℕ → ℕ → List Message
-starts p a n = flat_map (λ (s : Seat). s.state.sends) (map (started_seat p) (range_with_len a n))
+starts p a n = flat_map (λ (s : Seat). s.state.sends) (map (seat_at_start p) (range_with_len a n))
 
 -- a federate's messages at the start are numbered from 1
-pub own_numbered : (p : Parts) (i : ℕ) → AreNumbered i 1 (started_seat p i).state.sends
+pub own_numbered : (p : Parts) (i : ℕ) → AreNumbered i 1 (seat_at_start p i).state.sends
 own_numbered p i =
     let gr = grows_by_start p i in
     let L : List Message → Type 0 = AreNumbered i 1 in
     subst L (sym gr.sends) gr.numbered
 
 -- its next number is above them
-next_start : (p : Parts) (i : ℕ) → (started_seat p i).state.next ≡ 1 + length (started_seat p i).state.sends
+next_start : (p : Parts) (i : ℕ) → (seat_at_start p i).state.next ≡ 1 + length (seat_at_start p i).state.sends
 next_start p i =
     let gr = grows_by_start p i in
     gr.next ∙ ap (λ (xs : List Message). 1 + length xs) (sym gr.sends)
 
 -- its Retractions name Events of its own
-aimed_start : (p : Parts) (i : ℕ) → Aimed (started_seat p i).state
+aimed_start : (p : Parts) (i : ℕ) → Aimed (seat_at_start p i).state
 aimed_start p i = aimed_by_step p i Start 0 0 (opening_state (federate_at p i)) (record { under = tt; aims = tt })
 
 -- the federates above send no message of one below
 starts_other : (p : Parts) (k a n : ℕ) → k < a → filter (from k) (starts p a n) ≡ []
 starts_other p k a zero lt = refl
 starts_other p k a (suc n) lt =
-    filter-append (from k) (started_seat p a).state.sends (starts p (a + 1) n)
-    ∙ ap (λ xs. xs ++ filter (from k) (starts p (a + 1) n)) (filter_other a k 1 (started_seat p a).state.sends (λ e. omega arith) (own_numbered p a))
+    filter-append (from k) (seat_at_start p a).state.sends (starts p (a + 1) n)
+    ∙ ap (λ xs. xs ++ filter (from k) (starts p (a + 1) n)) (filter_other a k 1 (seat_at_start p a).state.sends (λ e. omega arith) (own_numbered p a))
     ∙ starts_other p k (a + 1) n (omega arith)
 
 -- of one among them they send its own
-starts_own : (p : Parts) (k a n : ℕ) → a ≤ k → k < a + n → filter (from k) (starts p a n) ≡ (started_seat p k).state.sends
+starts_own : (p : Parts) (k a n : ℕ) → a ≤ k → k < a + n → filter (from k) (starts p a n) ≡ (seat_at_start p k).state.sends
 starts_own p k a zero le lt = absurd (omega arith)
 starts_own p k a (suc n) le lt =
-    let here = (started_seat p a).state.sends in
+    let here = (seat_at_start p a).state.sends in
     let rest = starts p (a + 1) n in
     filter-append (from k) here rest ∙ elim (cases_eq k a) [
-      | inl e ↦ (let Q : ℕ → Type 0 = λ k. filter (from k) here ++ filter (from k) rest ≡ (started_seat p k).state.sends in
+      | inl e ↦ (let Q : ℕ → Type 0 = λ k. filter (from k) here ++ filter (from k) rest ≡ (seat_at_start p k).state.sends in
           subst Q (sym e) (ap (λ xs. xs ++ filter (from a) rest) (filter_own a 1 here (own_numbered p a)) ∙ ap (λ xs. here ++ xs) (starts_other p a (a + 1) n (omega arith)) ∙ append-nil here))
       | inr ne ↦ (ap (λ xs. xs ++ filter (from k) rest) (filter_other a k 1 here ne (own_numbered p a)) ∙ starts_own p k (a + 1) n (omega (arith, ne)) (omega arith))
     ]
 
 -- their numbers are below the next of their senders
-starts_below : (p : Parts) (a n : ℕ) → a + n ≤ length p.federates → AllByRecursion (Below (started p)) (starts p a n)
+starts_below : (p : Parts) (a n : ℕ) → a + n ≤ length p.federates → AllByRecursion (Below (world_at_start p)) (starts p a n)
 starts_below p a zero le = tt
 starts_below p a (suc n) le =
-    let own = (started_seat p a).state.sends in
-    let here : seat_at (started p) a ≡ started_seat p a = get_or-map-range_with_len (started_seat p) 0 (length p.federates) a a nobody_seated (omega arith) (omega arith) in
+    let own = (seat_at_start p a).state.sends in
+    let here : seat_at (world_at_start p) a ≡ seat_at_start p a = get_or-map-range_with_len (seat_at_start p) 0 (length p.federates) a a nobody_seated (omega arith) (omega arith) in
     let N : Seat → Type 0 = λ s. 1 + length own ≤ s.state.next in
-    all-append (Below (started p)) own (starts p (a + 1) n) (below_numbered (started p) a 1 own (own_numbered p a) (subst N (sym here) (omega (arith, next_start p a)))) (starts_below p (a + 1) n (omega arith))
+    all-append (Below (world_at_start p)) own (starts p (a + 1) n) (below_numbered (world_at_start p) a 1 own (own_numbered p a) (subst N (sym here) (omega (arith, next_start p a)))) (starts_below p (a + 1) n (omega arith))
 
 -- the numbers of the start
-pub started_counted : (p : Parts) → Counted (started p)
+pub started_counted : (p : Parts) → Counted (world_at_start p)
 started_counted p =
     let n = length p.federates in
     record {
       below = starts_below p 0 n (omega arith);
       each = λ k inside.
-          let lt : k < n = omega (arith, length-map-range_with_len (started_seat p) 0 n) in
-          let here : seat_at (started p) k ≡ started_seat p k = get_or-map-range_with_len (started_seat p) 0 n k k nobody_seated lt (omega arith) in
+          let lt : k < n = omega (arith, length-map-range_with_len (seat_at_start p) 0 n) in
+          let here : seat_at (world_at_start p) k ≡ seat_at_start p k = get_or-map-range_with_len (seat_at_start p) 0 n k k nobody_seated lt (omega arith) in
           let T : Seat → Type 0 = λ s. AreNumbered k 1 s.state.sends in
           let U : Seat → Type 0 = λ s. s.state.next ≡ 1 + length s.state.sends in
           let V : Seat → Type 0 = λ s. Aimed s.state in
-          let W : Seat → Type 0 = λ s. AllByRecursion (Below (started p)) s.got in
+          let W : Seat → Type 0 = λ s. AllByRecursion (Below (world_at_start p)) s.got in
           record {
             own = starts_own p k 0 n (omega arith) (omega arith) ∙ ap (λ (s : Seat). s.state.sends) (sym here);
             numbered = subst T (sym here) (own_numbered p k);
@@ -99,14 +99,14 @@ abbrev pub Backward : Message → Type 0
 Backward r = is_event r.kind ≡ false → r.value < r.number
 
 -- so do those that a grant makes
-pub made_backward : (p : Parts) (w : World) (g : ℕ × ℕ) → Aimed (seat_at w g.1).state → AllByRecursion Backward (drop (length (seat_at w g.1).state.sends) (granted_at p w g).state.sends)
+pub made_backward : (p : Parts) (w : World) (g : ℕ × ℕ) → Aimed (seat_at w g.1).state → AllByRecursion Backward (drop (length (seat_at w g.1).state.sends) (seat_after_pair p w g).state.sends)
 made_backward p w g a =
-    let new = granted_at p w g in
+    let new = seat_after_pair p w g in
     all_drop Backward (length (seat_at w g.1).state.sends) new.state.sends (each_weaker (Aims new.state.sends) Backward new.state.sends (λ r f e. (f e).1) (aimed_by_grant p w g a).aims)
 
 -- so do all after a grant
-pub granted_backward : (p : Parts) (w : World) (g : ℕ × ℕ) → Aimed (seat_at w g.1).state → AllByRecursion Backward w.messages → AllByRecursion Backward (granted p w g).messages
-granted_backward p w g a h = all-append Backward w.messages (drop (length (seat_at w g.1).state.sends) (granted_at p w g).state.sends) h (made_backward p w g a)
+pub granted_backward : (p : Parts) (w : World) (g : ℕ × ℕ) → Aimed (seat_at w g.1).state → AllByRecursion Backward w.messages → AllByRecursion Backward (world_after_grant p w g).messages
+granted_backward p w g a h = all-append Backward w.messages (drop (length (seat_at w g.1).state.sends) (seat_after_pair p w g).state.sends) h (made_backward p w g a)
 
 -- a test and one that fails
 and_false : (b : Bool) → (b && false) ≡ false
@@ -221,11 +221,11 @@ pub record Told (w : World) : Type 0 where
 starts_backward : (p : Parts) (a n : ℕ) → AllByRecursion Backward (starts p a n)
 starts_backward p a zero = tt
 starts_backward p a (suc n) =
-    let own = (started_seat p a).state.sends in
+    let own = (seat_at_start p a).state.sends in
     all-append Backward own (starts p (a + 1) n) (each_weaker (Aims own) Backward own (λ r f e. (f e).1) (aimed_start p a).aims) (starts_backward p (a + 1) n)
 
 -- a turn keeps what is told
-told_once : (p : Parts) (last : ℕ × ℕ) (w : World) (o : Option (ℕ × ℕ)) → Reached p last w → next_grant p w ≡ o → Told w → Told (granted_or_same p w o)
+told_once : (p : Parts) (last : ℕ × ℕ) (w : World) (o : Option (ℕ × ℕ)) → Reached p last w → next_grant p w ≡ o → Told w → Told (world_after_pair p w o)
 told_once p last w None r e t = t
 told_once p last w (Some g) r e t =
     let within : g.1 < length w.seats = (grants p last w g r e).within in
@@ -236,8 +236,8 @@ told_after : (p : Parts) (last : ℕ × ℕ) (w : World) (n : ℕ) → IsFederat
 told_after p last w zero f r t = t
 told_after p last w (suc n) f r t =
     let o = reached_once p last w (next_grant p w) f r refl in
-    told_after p o.0 (advanced p w) n f o.1 (told_once p last w (next_grant p w) r refl t)
+    told_after p o.0 (next_world p w) n f o.1 (told_once p last w (next_grant p w) r refl t)
 
 -- so it is told of each world of the run
-pub told : (p : Parts) (n : ℕ) → IsFederation p → Told (after_grants p n (started p))
-told p n f = told_after p (0, 0) (started p) n f (started_reached p f) (record { counted = started_counted p; backward = starts_backward p 0 (length p.federates) })
+pub told : (p : Parts) (n : ℕ) → IsFederation p → Told (after_grants p n (world_at_start p))
+told p n f = told_after p (0, 0) (world_at_start p) n f (started_reached p f) (record { counted = started_counted p; backward = starts_backward p 0 (length p.federates) })

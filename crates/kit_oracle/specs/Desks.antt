@@ -6,7 +6,7 @@ use Rattle.kit_rules.specs.declared.table.Request.{Request}
 use Rattle.kit_rules.specs.declared.table.Request.TheVariants as request
 use Rattle.kit_rules.specs.declared.table.Wish.TheVariants as wish
 use Rattle.kit_rules.specs.Parts.{Parts}
-use Rattle.kit_rules.specs.Delivery.{is_transported, receivers_of, pending}
+use Rattle.kit_rules.specs.Delivery.{is_transported, receivers_of, pending_messages}
 use Rattle.kit_rules.specs.Simulation.{Seat, World, request_at, after_block}
 use Rattle.kit_oracle.specs.declared.desk.Desk.{Desk}
 use Rattle.kit_oracle.specs.Queues.{front, behind, first_time, posted}
@@ -57,7 +57,7 @@ after_grant p g ds = all_posted p (drop (length (desk_at ds g.1).state.sends) (t
 
 -- what a desk shows of a seat: its messages that are pending, in order
 abbrev pub shown : Parts → List Message → ℕ → Seat → Desk
-shown p sent i s = record { now = s.now; request = s.request; state = s.state; queue = in_order (pending p i s.got sent) }
+shown p sent i s = record { now = s.now; request = s.request; state = s.state; queue = in_order (pending_messages p i s.got sent) }
 
 abbrev pub shown_from : Parts → List Message → ℕ → List Seat → List Desk
 shown_from p sent i [] = []

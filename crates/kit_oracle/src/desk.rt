@@ -1,5 +1,5 @@
 ghost use Rattle.std.specs.Prelude.{◌≡◌, ◌≤◌, length, None};
-ghost use Rattle.kit_rules.specs.Simulation.{least, sooner};
+ghost use Rattle.kit_rules.specs.Simulation.{least_pair, sooner_pair};
 ghost use Rattle.kit_oracle.specs.Desks.{due_in, waiting_at};
 
 use crate::queue::Queue;
@@ -26,7 +26,7 @@ fn due_of(request: Request, queue: &Queue) -> u64
 }
 
 fn sooner_of(best: Option<(u64, u8)>, pair: (u64, u8)) -> (u64, u8)
-    ensures { result ≡ sooner best pair }
+    ensures { result ≡ sooner_pair best pair }
 {
     match best {
         None => pair,
@@ -43,7 +43,7 @@ fn sooner_of(best: Option<(u64, u8)>, pair: (u64, u8)) -> (u64, u8)
 /// The least pair of a due time and a federate below the end.
 pub(crate) fn next_of(end: u64, desks: &[Desk]) -> Option<(u64, u8)>
     requires { length desks.now ≤ 16 }
-    ensures { result ≡ least None (waiting_at end 0 desks.now) }
+    ensures { result ≡ least_pair None (waiting_at end 0 desks.now) }
 {
     let mut best = None;
     for (i, desk) in desks.iter().enumerate() {

@@ -1,7 +1,7 @@
 //! How many messages the federates have outstanding while a simulation runs.
 
 ghost use Rattle.std.specs.Prelude.{◌≡◌, ℕ, ◌+◌, ◌<◌, ◌≤◌, ◌^◌, [], ◌∷◌, length, IfOk, OnOk};
-ghost use Rattle.kit_rules.specs.Simulation.{started};
+ghost use Rattle.kit_rules.specs.Simulation.{world_at_start};
 ghost use Rattle.kit_oracle.specs.Desks.{desks_of};
 ghost use Rattle.kit_oracle.specs.Times.{later, sent_later};
 ghost use Rattle.kit_oracle.specs.Needing.{AreNeeds, needs_still};
@@ -56,7 +56,7 @@ impl Needs {
         federation: &Federation,
         desks: &[Desk],
     ) -> Result<Needs, AllocError>
-        requires { desks.now ≡ desks_of federation.now (started federation.now) }
+        requires { desks.now ≡ desks_of federation.now (world_at_start federation.now) }
         ensures { IfOk result (λ needs. AreNeeds federation.now 0 needs.times.items needs.most.items) }
     {
         let _federates = federation.count();

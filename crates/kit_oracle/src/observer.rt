@@ -4,7 +4,7 @@ ghost use Rattle.std.specs.Prelude.{◌≡◌, ℕ, ◌+◌, List, [], ◌∷◌
 ghost use Rattle.kit_base.specs.declared.history.Line.{Line};
 ghost use Rattle.kit_base.specs.declared.history.Line.TheVariants as line;
 ghost use Rattle.kit_rules.specs.Parts.{Parts};
-ghost use Rattle.kit_rules.specs.Simulation.{next_grant, started, after_grants};
+ghost use Rattle.kit_rules.specs.Simulation.{next_grant, world_at_start, after_grants};
 ghost use Rattle.kit_oracle.specs.Observing.{Adds, IsGrant};
 
 use kit_base::{Line, Message};
@@ -32,7 +32,7 @@ pub(crate) trait Observer {
         ensures { (n : ℕ) (ls : List Line) → IsGrant federation.now n pair made.now → shows federation.now n ls self.old → OnOk result (shows federation.now (n + 1) (ls ++ line.Grant pair.0 pair.1 ∷ []) self.new) };
 
     // where nobody waits, a further turn changes nothing
-    ghost over: { (p : Parts) (n : ℕ) (ls : List Line) (s : Self) → next_grant p (after_grants p n (started p)) ≡ None → shows p n ls s → shows p (n + 1) ls s };
+    ghost over: { (p : Parts) (n : ℕ) (ls : List Line) (s : Self) → next_grant p (after_grants p n (world_at_start p)) ≡ None → shows p n ls s → shows p (n + 1) ls s };
 }
 
 /// The lines of a simulation, one after another.

@@ -1,7 +1,7 @@
 //! The start of the simulation.
 
 ghost use Rattle.std.specs.Prelude.{◌≡◌, ◌<◌, ◌≤◌, [], ◌++◌, length, find, Some, None, Err, OnOk, IfOk};
-ghost use Rattle.kit_rules.specs.Simulation.{started, started_seat, spender, is_spent};
+ghost use Rattle.kit_rules.specs.Simulation.{world_at_start, seat_at_start, spender, is_spent};
 ghost use Rattle.kit_oracle.specs.Desks.{shown, shown_from, desks_of};
 ghost use Rattle.kit_oracle.specs.Ends.{IfSpent};
 
@@ -23,10 +23,10 @@ fn open(
     made: &mut Vec<Message>,
 ) -> Result<Desk, ApplyEnd>
     requires { i < length federation.now.federates }
-    ensures desk { IfOk result (λ desk. desk ≡ shown federation.now [] i (started_seat federation.now i)) }
-    ensures made { OnOk result (made.new.items ≡ made.old.items ++ (started_seat federation.now i).state.sends) }
-    ensures spent { result ≡ Err ApplyEnd.SendsSpent → 16385 < (started_seat federation.now i).state.next }
-    ensures room { OnOk result ((started_seat federation.now i).state.next ≤ 16385) }
+    ensures desk { IfOk result (λ desk. desk ≡ shown federation.now [] i (seat_at_start federation.now i)) }
+    ensures made { OnOk result (made.new.items ≡ made.old.items ++ (seat_at_start federation.now i).state.sends) }
+    ensures spent { result ≡ Err ApplyEnd.SendsSpent → 16385 < (seat_at_start federation.now i).state.next }
+    ensures room { OnOk result ((seat_at_start federation.now i).state.next ≤ 16385) }
 {
     let end = federation.end();
     let mut state = FedState::new(alloc, federation, i);
@@ -46,9 +46,9 @@ fn open_each(
     made: &mut Vec<Message>,
 ) -> Result<Vec<Desk>, OracleEnd>
     requires { made.old.items ≡ [] }
-    ensures desks { IfOk result (λ desks. desks.items ≡ shown_from federation.now [] 0 (started federation.now).seats) }
-    ensures made { OnOk result (made.new.items ≡ (started federation.now).messages) }
-    ensures none { OnOk result (find is_spent (started federation.now).messages ≡ None) }
+    ensures desks { IfOk result (λ desks. desks.items ≡ shown_from federation.now [] 0 (world_at_start federation.now).seats) }
+    ensures made { OnOk result (made.new.items ≡ (world_at_start federation.now).messages) }
+    ensures none { OnOk result (find is_spent (world_at_start federation.now).messages ≡ None) }
     ensures spent { IfSpent result (λ i. spender federation.now ≡ Some i) }
 {
     let mut desks = Vec::new(alloc);
@@ -68,9 +68,9 @@ pub(crate) fn open_all(
     made: &mut Vec<Message>,
 ) -> Result<Vec<Desk>, OracleEnd>
     requires { made.old.items ≡ [] }
-    ensures desks { IfOk result (λ desks. desks.items ≡ desks_of federation.now (started federation.now)) }
+    ensures desks { IfOk result (λ desks. desks.items ≡ desks_of federation.now (world_at_start federation.now)) }
     ensures made { OnOk result (made.new.items ≡ []) }
-    ensures none { OnOk result (find is_spent (started federation.now).messages ≡ None) }
+    ensures none { OnOk result (find is_spent (world_at_start federation.now).messages ≡ None) }
     ensures spent { IfSpent result (λ i. spender federation.now ≡ Some i) }
 {
     let _ = federation.count();

@@ -1,7 +1,7 @@
 ghost use Rattle.std.specs.Prelude.{◌≡◌, ◌*◌, ◌≤◌, [], length, map, find, Some, None, OnOk, IfOk, All};
 ghost use Rattle.kit_rules.specs.Fits.{LineFits};
 ghost use Rattle.kit_rules.specs.Need.{needs_of};
-ghost use Rattle.kit_rules.specs.Simulation.{started, simulated, spender, is_spent, lines_of, closing_vars};
+ghost use Rattle.kit_rules.specs.Simulation.{world_at_start, simulation, spender, is_spent, lines_of, closing_vars};
 ghost use Rattle.kit_oracle.specs.Desks.{desks_of};
 ghost use Rattle.kit_oracle.specs.Ends.{IfSpent};
 
@@ -23,13 +23,13 @@ fn run_all<O: Observer>(
     made: &mut Vec<Message>,
     observer: &mut O,
 ) -> Result<(), OracleEnd>
-    requires desks { desks.old.items ≡ desks_of federation.now (started federation.now) }
+    requires desks { desks.old.items ≡ desks_of federation.now (world_at_start federation.now) }
     requires made { made.old.items ≡ [] }
     requires shows { O.shows federation.now 0 [] observer.old }
-    requires none { find is_spent (started federation.now).messages ≡ None }
-    ensures desks { OnOk result (desks.new.items ≡ desks_of federation.now (simulated federation.now)) }
-    ensures shows { OnOk result (O.shows federation.now (length federation.now.federates * federation.now.end) (lines_of (simulated federation.now).blocks) observer.new) }
-    ensures none { OnOk result (find is_spent (simulated federation.now).messages ≡ None) }
+    requires none { find is_spent (world_at_start federation.now).messages ≡ None }
+    ensures desks { OnOk result (desks.new.items ≡ desks_of federation.now (simulation federation.now)) }
+    ensures shows { OnOk result (O.shows federation.now (length federation.now.federates * federation.now.end) (lines_of (simulation federation.now).blocks) observer.new) }
+    ensures none { OnOk result (find is_spent (simulation federation.now).messages ≡ None) }
     ensures spent { IfSpent result (λ i. spender federation.now ≡ Some i) }
 {
     let end = federation.end();
@@ -65,8 +65,8 @@ fn vars_of(alloc: Global, desks: &[Desk]) -> Result<Items<[u32; 8]>, AllocError>
 // Compiled alone, the loop is as fast whatever else its caller does; so is that of `need`.
 #[inline(never)]
 pub fn simulate(alloc: Global, federation: &Federation) -> Result<History, OracleEnd>
-    ensures lines { IfOk result (λ h. h.lines ≡ lines_of (simulated federation.now).blocks) }
-    ensures vars { IfOk result (λ h. h.vars ≡ closing_vars (simulated federation.now)) }
+    ensures lines { IfOk result (λ h. h.lines ≡ lines_of (simulation federation.now).blocks) }
+    ensures vars { IfOk result (λ h. h.vars ≡ closing_vars (simulation federation.now)) }
     ensures none { OnOk result (spender federation.now ≡ None) }
     ensures spent { IfSpent result (λ i. spender federation.now ≡ Some i) }
 

@@ -5,8 +5,8 @@ use Rattle.std.proofs.lemmas.List.{take_all}
 use Rattle.kit_base.specs.declared.message.Message.{Message}
 use Rattle.kit_rules.specs.Parts.{Parts}
 use Rattle.kit_rules.specs.Federation.{IsFederation}
-use Rattle.kit_rules.specs.Delivery.{is_pending, pending, is_due, due_messages, due_time}
-use Rattle.kit_rules.specs.Simulation.{Seat, Block, block, seat_at, seat_due, simulated}
+use Rattle.kit_rules.specs.Delivery.{is_pending, pending_messages, is_due, due_messages, due_time}
+use Rattle.kit_rules.specs.Simulation.{Seat, Block, block, seat_at, seat_due, simulation}
 use Rattle.kit_laws.proofs.Least.{next_stands}
 use Rattle.kit_laws.proofs.Rising.{last_grants}
 use Rattle.kit_parts.specs.Fronts.{seat_after, part, IsFront, is_for}
@@ -36,18 +36,18 @@ unfinished p i done f lt front below =
       | inl short ↦ short
       | inr ge ↦ absurd (
           let all : done ≡ part p i = front ∙ take_all (length done) (part p i) ge in
-          let seat : seat_at (simulated p) i ≡ seat_after p i done = whole_seat p i f lt ∙ ap (seat_after p i) (sym all) in
-          let within : i < length (simulated p).seats = omega (arith, (whole_way p f).1.reached.count) in
+          let seat : seat_at (simulation p) i ≡ seat_after p i done = whole_seat p i f lt ∙ ap (seat_after p i) (sym all) in
+          let within : i < length (simulation p).seats = omega (arith, (whole_way p f).1.reached.count) in
           omega (arith, last_grants p f i within, ap (λ (s : Seat). s.now) seat))
     ]
 
 -- the world of a next block, and what a federate has heard of
 module _ (p : Parts) (f : IsFederation p) (bound i : ℕ) (received : List Message) (heard : Heard p bound i received) (done : List Block) (c : Comes p i done) where
-  real : (r : Message) → Among r received → Among r (simulated p).messages
-  real r a = contains_among r (simulated p).messages (heard.sent r (among_contains r received a)).0
+  real : (r : Message) → Among r received → Among r (simulation p).messages
+  real r a = contains_among r (simulation p).messages (heard.sent r (among_contains r received a)).0
 
-  full : (r : Message) → Among r (simulated p).messages → is_for p i r ≡ true → r.time < bound → Among r received
-  full r a here lt = contains_among r received (heard.came r (among_contains r (simulated p).messages a) here lt)
+  full : (r : Message) → Among r (simulation p).messages → is_for p i r ≡ true → r.time < bound → Among r received
+  full r a here lt = contains_among r received (heard.came r (among_contains r (simulation p).messages a) here lt)
 
   -- it is due when the simulation grants it, or not below the bound
   pub due_agrees : seat_due p received i (seat_at c.world i) < bound → seat_due p received i (seat_at c.world i) ≡ c.due
@@ -55,8 +55,8 @@ module _ (p : Parts) (f : IsFederation p) (bound i : ℕ) (received : List Messa
       let s = seat_at c.world i in
       let g : ℕ × ℕ = (c.due, i) in
       let st = next_stands p c.world.messages c.world.seats g c.next in
-      let here = pending p i s.got received in
-      let there = pending p i s.got c.world.messages in
+      let here = pending_messages p i s.got received in
+      let there = pending_messages p i s.got c.world.messages in
       let later : due_time s.request here ≤ due_time s.request there = due_no_later s.request there here (λ m a e.
       let h = pending_among p i s.got c.world.messages m a in
       elim (cases_lt m.time bound) [
@@ -79,7 +79,7 @@ module _ (p : Parts) (f : IsFederation p) (bound i : ℕ) (received : List Messa
       let s = seat_at c.world i in
       let g : ℕ × ℕ = (c.due, i) in
       let w = c.world.messages in
-      same_in_order (λ m. Among m (simulated p).messages) (λ a b x y e. one_key p a b f x y e)
+      same_in_order (λ m. Among m (simulation p).messages) (λ a b x y e. one_key p a b f x y e)
       (filter (is_due p i c.due s.got w) w) (filter (is_due p i c.due s.got received) received)
       (distinct_filter (is_due p i c.due s.got w) w (world_distinct p c.last c.world f c.way))
       (distinct_filter (is_due p i c.due s.got received) received (pairs_distinct received heard.once))

@@ -8,8 +8,8 @@ use Rattle.kit_rules.specs.declared.table.Request.TheVariants as request
 use Rattle.kit_rules.specs.Parts.{Parts}
 use Rattle.kit_rules.specs.Federation.{IsFederation}
 use Rattle.kit_rules.specs.Step.{is_event}
-use Rattle.kit_rules.specs.Delivery.{is_pending, pending, is_transported, has_bit, receivers_of, is_same, retracts, due_time}
-use Rattle.kit_rules.specs.Simulation.{World, next_grant, granted, after_grants, simulated}
+use Rattle.kit_rules.specs.Delivery.{is_pending, pending_messages, is_transported, has_bit, receivers_of, is_same, retracts, due_time}
+use Rattle.kit_rules.specs.Simulation.{World, next_grant, world_after_grant, after_grants, simulation}
 use Rattle.kit_laws.specs.Sane.{time_of}
 use Rattle.kit_laws.proofs.Pendings.{earliest_low, not_false}
 use Rattle.kit_parts.specs.Fronts.{is_for}
@@ -58,10 +58,10 @@ pub not_kept : (p : Parts) (i : ℕ) (got sent : List Message) (m r : Message) �
 not_kept p i got sent m r h a e = both_ways (list_any (retracts m) sent) h.kept (any_among (retracts m) r sent a e)
 
 -- pending ones are of the list
-pub pending_among : (p : Parts) (i : ℕ) (got sent : List Message) (m : Message) → Among m (pending p i got sent) → Among m sent × Held p i got sent m
+pub pending_among : (p : Parts) (i : ℕ) (got sent : List Message) (m : Message) → Among m (pending_messages p i got sent) → Among m sent × Held p i got sent m
 pending_among p i got sent m a = let r = filter_among (is_pending p i got sent) m sent a in (r.0, held p i got sent m r.1)
 
-pub among_pending : (p : Parts) (i : ℕ) (got sent : List Message) (m : Message) → Among m sent → Held p i got sent m → Among m (pending p i got sent)
+pub among_pending : (p : Parts) (i : ℕ) (got sent : List Message) (m : Message) → Among m sent → Held p i got sent m → Among m (pending_messages p i got sent)
 among_pending p i got sent m a h = among_filter (is_pending p i got sent) m sent a (is_held p i got sent m h)
 
 -- the earliest is the time that was given, or that of one of them
@@ -99,15 +99,15 @@ due_by (request.Tar t) ms = omega arith
 due_by (request.Ner t) ms = earliest_low t ms
 
 -- a world whose next grant is this
-module _ (p : Parts) (f : IsFederation p) (n : ℕ) (last : ℕ × ℕ) (w : World) (g : ℕ × ℕ) (way : OnWay p last w) (next : next_grant p w ≡ Some g) (goes : after_grants p n (granted p w g) ≡ simulated p) where
+module _ (p : Parts) (f : IsFederation p) (n : ℕ) (last : ℕ × ℕ) (w : World) (g : ℕ × ℕ) (way : OnWay p last w) (next : next_grant p w ≡ Some g) (goes : after_grants p n (world_after_grant p w g) ≡ simulation p) where
   -- its messages are of the simulation
-  pub of_whole : (m : Message) → Among m w.messages → Among m (simulated p).messages
+  pub of_whole : (m : Message) → Among m w.messages → Among m (simulation p).messages
   of_whole m a =
       let P : World → Type 0 = λ v. Among m v.messages in
-      subst P goes (stays_sent p n (granted p w g) m (among_left m w.messages (made_by p w g) a))
+      subst P goes (stays_sent p n (world_after_grant p w g) m (among_left m w.messages (made_by p w g) a))
 
   -- what is pending there at the time of the grant is pending by what was received
-  pub pending_there : (i : ℕ) (got received : List Message) (m : Message) → ((r : Message) → Among r received → Among r (simulated p).messages)
+  pub pending_there : (i : ℕ) (got received : List Message) (m : Message) → ((r : Message) → Among r received → Among r (simulation p).messages)
       → Among m w.messages → m.time ≤ g.0 → Held p i got w.messages m → Held p i got received m
   pending_there i got received m real a le h = held_by p i got w.messages received m h (λ r in_r e.
       let whole = real r in_r in
@@ -118,8 +118,8 @@ module _ (p : Parts) (f : IsFederation p) (n : ℕ) (last : ℕ × ℕ) (w : Wor
       ])
 
   -- and what is pending by that, and timed below what is known, is pending there
-  pub pending_here : (bound i : ℕ) (got received : List Message) (m : Message) → ((r : Message) → Among r (simulated p).messages → is_for p i r ≡ true → r.time < bound → Among r received)
-      → Among m (simulated p).messages → m.time < bound → Held p i got received m → Held p i got w.messages m
+  pub pending_here : (bound i : ℕ) (got received : List Message) (m : Message) → ((r : Message) → Among r (simulation p).messages → is_for p i r ≡ true → r.time < bound → Among r received)
+      → Among m (simulation p).messages → m.time < bound → Held p i got received m → Held p i got w.messages m
   pending_here bound i got received m full a lt h = held_by p i got received w.messages m h (λ r in_r e.
       let whole = of_whole r in_r in
       let same = retraction_same p m r f a whole e in

@@ -2,7 +2,7 @@
 use Rattle.std.proofs.Common.{inl, inr, ◌<◌, length, arith, sym, ap, ◌∙◌}
 use Rattle.std.proofs.lemmas.Bool.{cases_lt}
 use Rattle.std.proofs.lemmas.List.{take_all}
-use Rattle.kit_rules.specs.Simulation.{Seat, simulated}
+use Rattle.kit_rules.specs.Simulation.{Seat, simulation}
 use Rattle.kit_laws.proofs.Least.{next_stands}
 use Rattle.kit_laws.proofs.Rising.{last_grants}
 use Rattle.kit_parts.specs.Fronts.{part}
@@ -13,7 +13,7 @@ use Rattle.kit_parts.proofs.Whole.{whole_way, whole_seat}
 -- the end
 pub parts_end_law : PartsEnd
 parts_end_law p f i lt =
-    let within : i < length (simulated p).seats = omega (arith, (whole_way p f).1.reached.count) in
+    let within : i < length (simulation p).seats = omega (arith, (whole_way p f).1.reached.count) in
     ap (λ (s : Seat). s.now) (sym (whole_seat p i f lt)) ∙ last_grants p f i within
 
 pub ends_are_whole_law : EndsAreWhole

@@ -7,7 +7,7 @@ use Rattle.std.proofs.Math.Seq.{drop-append_seam}
 use Rattle.kit_base.specs.declared.message.Message.{Message}
 use Rattle.kit_rules.specs.Parts.{Parts, effective_lookahead}
 use Rattle.kit_rules.specs.Federation.{IsFederation}
-use Rattle.kit_rules.specs.Simulation.{Seat, Block, started_seat, seat_due}
+use Rattle.kit_rules.specs.Simulation.{Seat, Block, seat_at_start, seat_due}
 use Rattle.kit_laws.proofs.Needs.{count_by-append}
 use Rattle.kit_parts.specs.Fronts.{seat_with, seat_after, IsFront, AreFront, is_for, is_by, Progress, sent_by, sends_after}
 use Rattle.kit_parts.specs.Promises.{promise}
@@ -84,14 +84,14 @@ module _ (p : Parts) (f : IsFederation p) (a : Moment) (good : Good p a) where
     done = done ++ d ∷ [];
     is = refl;
     late = (let P : Seat → Type 0 = λ v. v.now + effective_lookahead p i ≤ m.time in
-        subst P (sym (from_append p i (started_seat p i) done (d ∷ []))) (one_of (λ (x : Message). d.time + effective_lookahead p i ≤ x.time) sends.made m sends.late h));
+        subst P (sym (from_append p i (seat_at_start p i) done (d ∷ []))) (one_of (λ (x : Message). d.time + effective_lookahead p i ≤ x.time) sends.made m sends.late h));
   }
 
   -- the start
   pub start_sound : (i : ℕ) → i < length p.federates → (a.all i).done ≡ None → Sound p (after_start p a i)
   start_sound i lt none =
       let q = progress (Some []) true (a.all i).received in
-      let row : ℕ → List Message = λ j. filter (is_for p j) (started_seat p i).state.sends in
+      let row : ℕ → List Message = λ j. filter (is_for p j) (seat_at_start p i).state.sends in
       let c = after_start p a i in
       let same : (k : ℕ) → (c.all k).received ≡ (a.all k).received = each_one (λ k v. v.received ≡ (a.all k).received) a.all i q refl (λ k ne. refl) in
       let late = starts_send_late_law p f i lt in
@@ -113,7 +113,7 @@ module _ (p : Parts) (f : IsFederation p) (a : Moment) (good : Good p a) where
         };
         waiting_late = λ j k. each_two (λ j v w. j < length p.federates → k < length p.federates → All (λ (m : Message). promise p j v ≤ m.time) (w k)) a.all a.waiting i q row
             (λ li lk. all_of (λ (m : Message). promise p i q ≤ m.time) (row k) (λ m h.
-            let l = one_of (λ (m : Message). effective_lookahead p i ≤ m.time) (started_seat p i).state.sends m late (filter_among (is_for p k) m (started_seat p i).state.sends h).0 in
+            let l = one_of (λ (m : Message). effective_lookahead p i ≤ m.time) (seat_at_start p i).state.sends m late (filter_among (is_for p k) m (seat_at_start p i).state.sends h).0 in
             omega (arith, l, waiting_keeps_promise_law p f i lt (a.all i).received [])))
             (λ j ne lj lk. good.base.sound.waiting_late j k lj lk) j;
       }
@@ -195,7 +195,7 @@ module _ (p : Parts) (f : IsFederation p) (a : Moment) (good : Good p a) where
       let front = granted_front i done known li is below k due in
       let sends = grants_send_late_law p f i li d s in
       let is_made : made ≡ sends.made = ap (drop (length s.state.sends)) sends.sends ∙ drop-append_seam s.state.sends sends.made in
-      let seat : seat_after p i (done ++ d ∷ []) ≡ new = from_append p i (started_seat p i) done (d ∷ []) in
+      let seat : seat_after p i (done ++ d ∷ []) ≡ new = from_append p i (seat_at_start p i) done (d ∷ []) in
       let all_sends : sent_by p i q ≡ s.state.sends ++ made = ap (λ (v : Seat). v.state.sends) seat ∙ sends.sends ∙ ap (λ xs. s.state.sends ++ xs) (sym is_made) in
       let got : (k : ℕ) → (c.all k).received ≡ (a.all k).received = each_one (λ k v. v.received ≡ (a.all k).received) a.all i q refl (λ k ne. refl) in
       let split : (j k : ℕ) → j < length p.federates → k < length p.federates → Split p j k (sent_by p j (c.all j)) (a.all k).received (a.transit j k) (c.waiting j k) =

@@ -16,7 +16,7 @@ use Rattle.kit_rules.specs.Parts.{Parts, federate_at, nobody, effective_lookahea
 use Rattle.kit_rules.specs.Federation.{IsFederation, IsRule, IsAction}
 use Rattle.kit_rules.specs.declared.scene.Scene.{Scene}
 use Rattle.kit_rules.specs.declared.scene.State.{State}
-use Rattle.kit_rules.specs.Step.{is_event, takes_back, message_of, retraction_of, is_target, after_action, after_actions, after_rule, after_rules, same_trigger, conditions_hold, scene_of, stepped}
+use Rattle.kit_rules.specs.Step.{is_event, takes_back, message_of, retraction_of, is_target, after_action, after_actions, after_rule, after_rules, same_trigger, conditions_hold, scene_of, state_after}
 use Rattle.kit_rules.specs.Simulation.{after_deliveries, after_block}
 use Rattle.kit_rules.proofs.Lookaheads.{rule_effective}
 use Rattle.kit_laws.proofs.Pendings.{From}
@@ -157,7 +157,7 @@ gain_by_rules scene groups vars on s (r ∷ rs) h =
     (gain_by_rules scene groups vars on (after_rule scene on s r) rs (All-tail (IsRule groups vars (Some scene.lookahead)) r rs h))
 
 -- the rule step of a federation
-pub gain_by_step : (p : Parts) (i : ℕ) (on : Trigger) (now value : ℕ) (s : State) → IsFederation p → i < length p.federates → Gain (now + effective_lookahead p i) s (stepped p i on now value s)
+pub gain_by_step : (p : Parts) (i : ℕ) (on : Trigger) (now value : ℕ) (s : State) → IsFederation p → i < length p.federates → Gain (now + effective_lookahead p i) s (state_after p i on now value s)
 unfolding effective_lookahead
 gain_by_step p i on now value s f lt =
     let fed = f.federates.each i nobody lt in
@@ -168,7 +168,7 @@ gain_by_step p i on now value s f lt =
 pub gain_by_deliveries : (p : Parts) (i d : ℕ) (s : State) (due : List Message) → IsFederation p → i < length p.federates → Gain (d + effective_lookahead p i) s (after_deliveries p i d s due)
 gain_by_deliveries p i d s [] f lt = gain_none (d + effective_lookahead p i) s
 gain_by_deliveries p i d s (m ∷ ms) f lt =
-    gain_more (d + effective_lookahead p i) _ _ _ (gain_by_step p i (Got m.group) d m.value s f lt) (gain_by_deliveries p i d (stepped p i (Got m.group) d m.value s) ms f lt)
+    gain_more (d + effective_lookahead p i) _ _ _ (gain_by_step p i (Got m.group) d m.value s f lt) (gain_by_deliveries p i d (state_after p i (Got m.group) d m.value s) ms f lt)
 
 -- and the whole grant
 pub gain_by_block : (p : Parts) (i d : ℕ) (s : State) (due : List Message) → IsFederation p → i < length p.federates → Gain (d + effective_lookahead p i) s (after_block p i d s due)

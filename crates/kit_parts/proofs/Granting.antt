@@ -4,7 +4,7 @@ use Rattle.kit_base.specs.declared.message.Message.{Message}
 use Rattle.kit_rules.specs.declared.table.Request.{Request}
 use Rattle.kit_rules.specs.declared.table.Request.TheVariants as request
 use Rattle.kit_rules.specs.Parts.{Parts}
-use Rattle.kit_rules.specs.Delivery.{pending, due_time, due_messages}
+use Rattle.kit_rules.specs.Delivery.{pending_messages, due_time, due_messages}
 use Rattle.kit_rules.specs.Simulation.{block}
 use Rattle.kit_parts.specs.Fronts.{seat_after, IsFront}
 use Rattle.kit_parts.specs.Queues.{queue_of, due_of, DueByQueue, GrantsAgreeByQueue}
@@ -12,7 +12,7 @@ use Rattle.kit_parts.proofs.Agreement.{grants_agree_law}
 use Rattle.kit_parts.proofs.InOrder.{due_by_first_law}
 use Rattle.kit_parts.proofs.Queueing.{queue_delivers_law}
 
-due_by : (p : Parts) (i : ℕ) (r : Request) (got received : List Message) → due_time r (pending p i got received) ≡ due_of r (queue_of p i got received)
+due_by : (p : Parts) (i : ℕ) (r : Request) (got received : List Message) → due_time r (pending_messages p i got received) ≡ due_of r (queue_of p i got received)
 due_by p i (request.Tar t) got received = refl
 due_by p i (request.Ner t) got received = due_by_first_law p i t got received
 

@@ -11,14 +11,14 @@ use Rattle.std.proofs.lemmas.List.Elements.{All-contains, Contains-get_or}
 use Rattle.kit_base.specs.declared.message.Message.{Message}
 use Rattle.kit_base.specs.Order.{is_before, put}
 use Rattle.kit_base.proofs.Lists.{each_weaker}
-use Rattle.kit_rules.specs.Delivery.{due_time, is_same, retracts, is_pending, pending, is_transported, has_bit, receivers_of, is_due, due_messages}
+use Rattle.kit_rules.specs.Delivery.{due_time, is_same, retracts, is_pending, pending_messages, is_transported, has_bit, receivers_of, is_due, due_messages}
 use Rattle.kit_parts.specs.Queues.{queue_of, QueueSplits, QueueIsOrdered, DueIsReceived, CopiesAreTransported, first_by, DueByFirst, NewIsPending}
 use Rattle.kit_parts.proofs.Among.{Among, among_any, each_of, among_contains, contains_among, filter_among, distinct_filter, pairs_distinct}
 use Rattle.kit_parts.proofs.Orders.{arranged, arranged_among, among_arranged, Rises, Before, rises_in_order}
 use Rattle.kit_parts.proofs.Due.{is_held}
 use Rattle.kit_parts.proofs.Agreement.{due_parts}
 use Rattle.kit_parts.proofs.Whole.{one_key}
-use Rattle.kit_rules.specs.Simulation.{simulated}
+use Rattle.kit_rules.specs.Simulation.{simulation}
 use Rattle.kit_parts.specs.Fronts.{is_for}
 use Rattle.kit_parts.proofs.Filtering.{Up, up_put, filter_same, filter_both}
 
@@ -58,7 +58,7 @@ up_arranged acc [] u = u
 up_arranged acc (x ∷ xs) u = up_arranged (put x acc) xs (up_put x acc u)
 
 pub queue_splits_law : QueueSplits
-queue_splits_law p i d got received = by_time d (queue_of p i got received) (up_arranged [] (pending p i got received) tt)
+queue_splits_law p i d got received = by_time d (queue_of p i got received) (up_arranged [] (pending_messages p i got received) tt)
 
 before_pairs : (xs : List Message) → Rises Before xs → AllPairs (λ a b. is_before a b ≡ true) xs
 before_pairs [] r i j d lt within = absurd (omega arith)
@@ -68,10 +68,10 @@ before_pairs (x ∷ xs) r (suc i) (suc j) d lt within = before_pairs xs r.1 i j 
 
 pub queue_is_ordered_law : QueueIsOrdered
 queue_is_ordered_law p f i got received real differ =
-    let U : Message → Type 0 = λ m. Among m (simulated p).messages in
+    let U : Message → Type 0 = λ m. Among m (simulation p).messages in
     let test = is_pending p i got received in
     before_pairs (queue_of p i got received) (rises_in_order U (λ a b x y e. one_key p a b f x y e) (filter test received) (distinct_filter test received (pairs_distinct received differ)) (λ m a.
-    contains_among m (simulated p).messages (All-contains (Contains (simulated p).messages) received m real (among_contains m received (filter_among test m received a).0))))
+    contains_among m (simulation p).messages (All-contains (Contains (simulation p).messages) received m real (among_contains m received (filter_among test m received a).0))))
 
 pub due_is_received_law : DueIsReceived
 due_is_received_law p i d got received m c =
@@ -110,7 +110,7 @@ first_capped t (x ∷ xs) = omega arith
 
 pub due_by_first_law : DueByFirst
 due_by_first_law p i t got received =
-    let ms = pending p i got received in
+    let ms = pending_messages p i got received in
     let q = queue_of p i got received in
     let up : Up q = up_arranged [] ms tt in
     let high : first_by t q ≤ due_time (Ner t) ms = elim (earliest_cases t ms) [

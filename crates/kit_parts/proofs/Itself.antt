@@ -5,7 +5,7 @@ use Rattle.std.proofs.Math.Pow.{pow_pos}
 use Rattle.std.proofs.lemmas.Nat.{div_below}
 use Rattle.std.proofs.lemmas.Bool.{cases_Bool, cases_lt, eqb-true, ne_eqb, and_right}
 use Rattle.kit_rules.specs.Parts.{group_at}
-use Rattle.kit_rules.specs.Delivery.{has_bit, without, is_transported, receivers_of}
+use Rattle.kit_rules.specs.Delivery.{has_bit, without_bit, is_transported, receivers_of}
 use Rattle.kit_parts.specs.Laws.{NobodySendsToItself}
 
 -- one less is even where a quotient was odd
@@ -17,7 +17,7 @@ even_after n b pos odd =
     ]
 
 -- a mask without a federate does not have its bit
-without_it : (mask i : ℕ) → has_bit (without mask i) i ≡ false
+without_it : (mask i : ℕ) → has_bit (without_bit mask i) i ≡ false
 without_it mask i =
     elim (cases_Bool (has_bit mask i)) [
       | inl t ↦ (let odd : mask / 2 ^ i % 2 ≡ 1 = eqb-true (mask / 2 ^ i % 2) 1 t in

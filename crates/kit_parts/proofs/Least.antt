@@ -4,8 +4,8 @@ use Rattle.std.proofs.lemmas.Bool.{cases_lt}
 use Rattle.kit_base.specs.declared.message.Message.{Message}
 use Rattle.kit_rules.specs.Parts.{Parts, effective_lookahead}
 use Rattle.kit_rules.specs.Federation.{IsFederation}
-use Rattle.kit_rules.specs.Delivery.{pending}
-use Rattle.kit_rules.specs.Simulation.{Seat, Block, started_seat, request_at, seat_due}
+use Rattle.kit_rules.specs.Delivery.{pending_messages}
+use Rattle.kit_rules.specs.Simulation.{Seat, Block, seat_at_start, request_at, seat_due}
 use Rattle.kit_rules.proofs.Lookaheads.{lookahead_is_positive}
 use Rattle.kit_laws.specs.Sane.{time_of}
 use Rattle.kit_laws.proofs.Pendings.{due_capped}
@@ -26,7 +26,7 @@ capped_from p i s [] h = h
 capped_from p i s (b ∷ bs) h = capped_from p i (seat_with p i b s) bs (capped_with p i b s h)
 
 pub request_within : (p : Parts) (i : ℕ) (done : List Block) → time_of (seat_after p i done).request ≤ p.end
-request_within p i done = capped_from p i (started_seat p i) done (request_capped (started_seat p i).state.wish 0 p.end)
+request_within p i done = capped_from p i (seat_at_start p i) done (request_capped (seat_at_start p i).state.wish 0 p.end)
 
 -- so the time by which a promise goes is not past the end
 time_capped : (p : Parts) (i : ℕ) (waits : Bool) (received : List Message) (o : Option (List Block)) → IfSome o (λ done. (seat_after p i done).now < p.end) → time_after p i waits received o ≤ p.end
@@ -34,7 +34,7 @@ time_capped p i waits received None h = omega arith
 time_capped p i true received (Some done) h = let l : (seat_after p i done).now < p.end = h in omega arith
 time_capped p i false received (Some done) h =
     let s = seat_after p i done in
-    omega (arith, due_capped s.request (pending p i s.got received), request_within p i done)
+    omega (arith, due_capped s.request (pending_messages p i s.got received), request_within p i done)
 
 -- and what is no later than it is below the promise
 below_promise : (p : Parts) (j t : ℕ) (waits : Bool) (received : List Message) (o : Option (List Block)) → IsFederation p → j < length p.federates → t ≤ p.end

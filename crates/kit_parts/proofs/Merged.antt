@@ -10,7 +10,7 @@ use Rattle.kit_rules.specs.Parts.{Parts}
 use Rattle.kit_rules.specs.Federation.{IsFederation}
 use Rattle.kit_rules.specs.Fits.{LineFits}
 use Rattle.kit_rules.specs.Text.{history_text}
-use Rattle.kit_rules.specs.Simulation.{Seat, Block, nobody_seated, is_sooner, block_lines, lines_of, simulated, closing_vars}
+use Rattle.kit_rules.specs.Simulation.{Seat, Block, nobody_seated, is_sooner, block_lines, lines_of, simulation, closing_vars}
 use Rattle.kit_laws.specs.Laws.{grants_of, Ascend}
 use Rattle.kit_laws.proofs.Ascending.{blocks_ascend_law}
 use Rattle.kit_laws.proofs.Fitting.{simulated_fits, simulated_count}
@@ -69,11 +69,11 @@ pub one_merge_law : OneMerge
 one_merge_law parts a b ma mb = one_ordered Sooner sooner_never a b (ascend_rises a ma.ascend) (ascend_rises b mb.ascend) (one_has parts a b ma mb) (one_has parts b a mb ma)
 
 -- each block of the simulation is of a federate that is there
-pub block_within : (p : Parts) (b : Block) → IsFederation p → Among b (simulated p).blocks → b.federate < length p.federates
+pub block_within : (p : Parts) (b : Block) → IsFederation p → Among b (simulation p).blocks → b.federate < length p.federates
 block_within p b f a =
     let g = line.Grant b.time b.federate in
     let here : Among g (block_lines b) = among_right g (map (line.Deliver b.time b.federate) b.delivered) (g ∷ []) (inl refl) in
-    let fits : LineFits p g = All-contains (LineFits p) (lines_of (simulated p).blocks) g (simulated_fits p f) (among_contains g (lines_of (simulated p).blocks) (among_flat block_lines g b (simulated p).blocks a here)) in
+    let fits : LineFits p g = All-contains (LineFits p) (lines_of (simulation p).blocks) g (simulated_fits p f) (among_contains g (lines_of (simulation p).blocks) (among_flat block_lines g b (simulation p).blocks a here)) in
     fits
 
 pub parts_merge_law : PartsMerge
@@ -81,24 +81,24 @@ parts_merge_law p f =
     let n = length-map-range_with_len (part p) 0 (length p.federates) in
     record {
       ascend = blocks_ascend_law p f;
-      federates = All-from_recursion (λ (b : Block). b.federate < length (parts_of p)) (simulated p).blocks (for_each (λ (b : Block). b.federate < length (parts_of p)) (simulated p).blocks (λ b a. omega (arith, n, block_within p b f a)));
+      federates = All-from_recursion (λ (b : Block). b.federate < length (parts_of p)) (simulation p).blocks (for_each (λ (b : Block). b.federate < length (parts_of p)) (simulation p).blocks (λ b a. omega (arith, n, block_within p b f a)));
       split = λ k lt. sym (get_or-map-range_with_len (part p) 0 (length p.federates) k k [] (omega arith) (omega arith));
     }
 
 -- the variables that the parts leave are the closing ones
-pub vars_close : (p : Parts) → IsFederation p → vars_of p ≡ closing_vars (simulated p)
+pub vars_close : (p : Parts) → IsFederation p → vars_of p ≡ closing_vars (simulation p)
 vars_close p f =
     let vars : ℕ → List ℕ = λ i. (seat_after p i (part p i)).state.vars in
     let n = length-map-range_with_len vars 0 (length p.federates) in
     let c = simulated_count p f in
-    let m = length-map (simulated p).seats (λ (s : Seat). s.state.vars) in
-    same_lists (vars_of p) (closing_vars (simulated p)) (omega (arith, n, c, m)) (λ k d lt.
+    let m = length-map (simulation p).seats (λ (s : Seat). s.state.vars) in
+    same_lists (vars_of p) (closing_vars (simulation p)) (omega (arith, n, c, m)) (λ k d lt.
     let within : k < length p.federates = omega arith in
     get_or-map-range_with_len vars 0 (length p.federates) k k d within (omega arith)
     ∙ ap (λ (s : Seat). s.state.vars) (sym (whole_seat p k f within))
-    ∙ sym (get_or-map (λ (s : Seat). s.state.vars) (simulated p).seats k nobody_seated d (omega (arith, c))))
+    ∙ sym (get_or-map (λ (s : Seat). s.state.vars) (simulation p).seats k nobody_seated d (omega (arith, c))))
 
 pub parts_make_the_text_law : PartsMakeTheText
 parts_make_the_text_law p f blocks merge =
-    ap (λ bs. history_text p (lines_of bs) (vars_of p)) (one_merge_law (parts_of p) blocks (simulated p).blocks merge (parts_merge_law p f))
-    ∙ ap (λ vars. history_text p (lines_of (simulated p).blocks) vars) (vars_close p f)
+    ap (λ bs. history_text p (lines_of bs) (vars_of p)) (one_merge_law (parts_of p) blocks (simulation p).blocks merge (parts_merge_law p f))
+    ∙ ap (λ vars. history_text p (lines_of (simulation p).blocks) vars) (vars_close p f)

@@ -10,7 +10,7 @@ use Rattle.kit_rules.specs.Parts.{Parts}
 use Rattle.kit_rules.specs.Federation.{IsFederation}
 use Rattle.kit_rules.specs.Delivery.{is_transported}
 use Rattle.kit_rules.specs.Need.{is_outstanding, outstanding, need_of}
-use Rattle.kit_rules.specs.Simulation.{Seat, Block, World, seat_at, next_grant, started, granted, granted_or_same, after_grants}
+use Rattle.kit_rules.specs.Simulation.{Seat, Block, World, seat_at, next_grant, world_at_start, world_after_grant, world_after_pair, after_grants}
 use Rattle.kit_laws.specs.Laws.{IsOwnMoment}
 use Rattle.kit_laws.proofs.Needs.{need_is_greatest_law}
 use Rattle.kit_parts.specs.Fronts.{seat_after, blocks_of, part, IsFront, is_by}
@@ -62,7 +62,7 @@ pub same_fronts : (p : Parts) (i : ℕ) (xs ys : List Block) → IsFront p i xs 
 same_fronts p i xs ys fx fy e = fx ∙ ap (λ (n : ℕ). take n (part p i)) e ∙ sym fy
 
 -- what is outstanding in a world right after a grant of the federate
-need_at : (p : Parts) (i n : ℕ) (last : ℕ × ℕ) (w : World) → i < length p.federates → OnWay p last w → after_grants p n (started p) ≡ w → n ≤ length p.federates * p.end → IsOwnMoment p i n
+need_at : (p : Parts) (i n : ℕ) (last : ℕ × ℕ) (w : World) → i < length p.federates → OnWay p last w → after_grants p n (world_at_start p) ≡ w → n ≤ length p.federates * p.end → IsOwnMoment p i n
     → count_by (is_outstanding p i (seat_after p i (blocks_of i w.blocks)).now) (seat_after p i (blocks_of i w.blocks)).state.sends ≤ need_of p i
 need_at p i n last w lt way at le own = omega (arith, (need_is_greatest_law p i).none_more n le own, ap (outstanding p i) at, outstanding_is p last w i way lt)
 
@@ -71,10 +71,10 @@ need_next : (p : Parts) (i : ℕ) (before : List Block) → IsFederation p → i
     count_by (is_outstanding p i (seat_after p i done).now) (seat_after p i done).state.sends ≤ need_of p i
 need_next p i before f lt c =
     let g : ℕ × ℕ = (c.due, i) in
-    let v = granted p c.world g in
+    let v = world_after_grant p c.world g in
     let way = granted_way p c.last c.world g f c.way c.next in
-    let next : next_grant p (after_grants p c.index (started p)) ≡ Some g = ap (next_grant p) c.at ∙ c.next in
-    let after : after_grants p (c.index + 1) (started p) ≡ v = one_more p c.index c.world c.at ∙ ap (granted_or_same p c.world) c.next in
+    let next : next_grant p (after_grants p c.index (world_at_start p)) ≡ Some g = ap (next_grant p) c.at ∙ c.next in
+    let after : after_grants p (c.index + 1) (world_at_start p) ≡ v = one_more p c.index c.world c.at ∙ ap (world_after_pair p c.world) c.next in
     let same : blocks_of i v.blocks ≡ before ++ next_block p c.world g ∷ [] = blocks_here i c.world.blocks (next_block p c.world g) refl ∙ ap (λ xs. xs ++ next_block p c.world g ∷ []) c.before in
     let P : List Block → Type 0 = λ bs. count_by (is_outstanding p i (seat_after p i bs).now) (seat_after p i bs).state.sends ≤ need_of p i in
     subst P same (need_at p i (c.index + 1) g v lt way after (omega (arith, c.within)) (inr (c.index, c.due, refl, next)))
@@ -84,7 +84,7 @@ need_from : (p : Parts) (i k : ℕ) (done : List Block) → IsFederation p → i
 need_from p i zero done f lt front e =
     let none : done ≡ [] = empty done e in
     let P : List Block → Type 0 = λ bs. count_by (is_outstanding p i (seat_after p i bs).now) (seat_after p i bs).state.sends ≤ need_of p i in
-    subst P (sym none) (need_at p i 0 (0, 0) (started p) lt (started_way p f) refl (omega arith) (inl refl))
+    subst P (sym none) (need_at p i 0 (0, 0) (world_at_start p) lt (started_way p f) refl (omega arith) (inl refl))
   where
     empty : {X : Type 0} (xs : List X) → length xs ≡ 0 → xs ≡ []
     empty [] h = refl

@@ -13,8 +13,8 @@ use Rattle.kit_rules.specs.declared.table.Trigger.TheVariants.{Start}
 use Rattle.kit_rules.specs.Parts.{Parts, federate_at, effective_lookahead}
 use Rattle.kit_rules.specs.declared.scene.State.{State}
 use Rattle.kit_rules.specs.Step.{opening_state}
-use Rattle.kit_rules.specs.Delivery.{is_pending, pending, due_messages, due_time}
-use Rattle.kit_rules.specs.Simulation.{Seat, Block, block, started_seat, seat_at, seat_due, request_at}
+use Rattle.kit_rules.specs.Delivery.{is_pending, pending_messages, due_messages, due_time}
+use Rattle.kit_rules.specs.Simulation.{Seat, Block, block, seat_at_start, seat_at, seat_due, request_at}
 use Rattle.kit_rules.proofs.Lookaheads.{lookahead_is_positive}
 use Rattle.kit_laws.specs.Sane.{time_of}
 use Rattle.kit_laws.proofs.Pendings.{From, gone, due_from, earliest_low, pending_before_sent}
@@ -38,7 +38,7 @@ steps_send_late_law p f i lt on now value s = adds_from s _ (gain_by_step p i on
 
 pub starts_send_late_law : StartsSendLate
 starts_send_late_law p f i lt =
-    let g = adds_from (opening_state (federate_at p i)) (started_seat p i).state (gain_by_step p i Start 0 0 (opening_state (federate_at p i)) f lt) in
+    let g = adds_from (opening_state (federate_at p i)) (seat_at_start p i).state (gain_by_step p i Start 0 0 (opening_state (federate_at p i)) f lt) in
     let P : List Message → Type 0 = All (λ (m : Message). effective_lookahead p i ≤ m.time) in
     subst P (sym g.sends) (λ k d within. let l = g.late k d within in omega arith)
 
@@ -71,11 +71,11 @@ waiting_keeps_promise_law p f i lt received done =
 
 pub start_keeps_promise_law : StartKeepsPromise
 start_keeps_promise_law p f i before after received =
-    let s = started_seat p i in
+    let s = seat_at_start p i in
     let e = below_end p i after received s (omega (arith, f.end.0)) in
     by after e
   where
-    by : (after : Bool) → seat_promise p i after received (started_seat p i) ≡ promise_at p.end (effective_lookahead p i) 0 (seat_due p received i (started_seat p i)) after → promise_at p.end (effective_lookahead p i) 0 0 true ≤ seat_promise p i after received (started_seat p i)
+    by : (after : Bool) → seat_promise p i after received (seat_at_start p i) ≡ promise_at p.end (effective_lookahead p i) 0 (seat_due p received i (seat_at_start p i)) after → promise_at p.end (effective_lookahead p i) 0 0 true ≤ seat_promise p i after received (seat_at_start p i)
     by true e = omega (arith, e)
     by false e = omega (arith, e)
 
@@ -87,11 +87,11 @@ request_from (wish.Ner step) now end lt = omega arith
 next_due : (p : Parts) (i d : ℕ) (received : List Message) (s : Seat) → d < p.end → d ≤ seat_due p received i (seat_with p i (block i d (due_messages p i d s.got received)) s)
 next_due p i d received s lt =
     let new = seat_with p i (block i d (due_messages p i d s.got received)) s in
-    let Q : List Message → Type 0 = λ xs. AllByRecursion (From (d + 1)) (pending p i new.got xs) in
-    let late : AllByRecursion (From (d + 1)) (pending p i new.got received) = subst Q (append-nil received) (gone p i d s.got received [] tt) in
+    let Q : List Message → Type 0 = λ xs. AllByRecursion (From (d + 1)) (pending_messages p i new.got xs) in
+    let late : AllByRecursion (From (d + 1)) (pending_messages p i new.got received) = subst Q (append-nil received) (gone p i d s.got received [] tt) in
     let R : Request → Type 0 = λ r. d ≤ time_of r in
     let time : d ≤ time_of new.request = rw (lt-ltb d p.end lt) (request_from new.state.wish d p.end lt) in
-    due_from d new.request (pending p i new.got received) time (weak (pending p i new.got received) late)
+    due_from d new.request (pending_messages p i new.got received) time (weak (pending_messages p i new.got received) late)
   where
     weak : (xs : List Message) → AllByRecursion (From (d + 1)) xs → AllByRecursion (From d) xs
     weak [] h = tt
@@ -104,7 +104,7 @@ grant_keeps_promise_law p i after received done lt =
     let b = block i d (due_messages p i d s.got received) in
     let new = seat_with p i b s in
     let P : Seat → Type 0 = λ v. promise_after p i false received (Some done) ≤ seat_promise p i after received v in
-    subst P (sym (from_append p i (started_seat p i) done (b ∷ [])))
+    subst P (sym (from_append p i (seat_at_start p i) done (b ∷ [])))
     (elim (cases_lt d p.end) [
       | inl below ↦ by after (below_end p i false received s lt) (below_end p i after received new below) below
       | inr le ↦ omega (arith, at_end p i after received new le, promises_are_capped_law p i false received (Some done))
@@ -144,15 +144,15 @@ due_is_ahead_law p f bound i lt received heard done front below early =
     ]
 
 -- a receipt
-receipt_due : (p : Parts) (i : ℕ) (r : Request) (got received : List Message) (m : Message) → min (due_time r (pending p i got received)) m.time ≤ due_time r (pending p i got (received ++ m ∷ []))
+receipt_due : (p : Parts) (i : ℕ) (r : Request) (got received : List Message) (m : Message) → min (due_time r (pending_messages p i got received)) m.time ≤ due_time r (pending_messages p i got (received ++ m ∷ []))
 receipt_due p i (request.Tar t) got received m = omega arith
 receipt_due p i (request.Ner t) got received m =
-    let new = pending p i got (received ++ m ∷ []) in
+    let new = pending_messages p i got (received ++ m ∷ []) in
     elim (earliest_cases t new) [
-      | inl e ↦ omega (arith, e, earliest_low t (pending p i got received))
+      | inl e ↦ omega (arith, e, earliest_low t (pending_messages p i got received))
       | inr g ↦ (let q = filter_among (is_pending p i got (received ++ m ∷ [])) g.0 (received ++ m ∷ []) g.1 in
           elim (among_cases g.0 received (m ∷ []) q.0) [
-            | inl old ↦ omega (arith, g.2, earliest_among t (pending p i got received) g.0 (among_filter (is_pending p i got received) g.0 received old (pending_before_sent p i got received (m ∷ []) g.0 q.1)))
+            | inl old ↦ omega (arith, g.2, earliest_among t (pending_messages p i got received) g.0 (among_filter (is_pending p i got received) g.0 received old (pending_before_sent p i got received (m ∷ []) g.0 q.1)))
             | inr here ↦ elim here [
               | inl e ↦ (let same : m.time ≡ g.0.time = ap (λ (x : Message). x.time) e in omega (arith, g.2))
               | inr none ↦ elim none [ ]

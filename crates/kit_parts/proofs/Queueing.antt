@@ -11,7 +11,7 @@ use Rattle.kit_base.specs.declared.message.Message.{Message}
 use Rattle.kit_base.specs.Order.{put, in_order}
 use Rattle.kit_rules.specs.Parts.{Parts}
 use Rattle.kit_rules.specs.Step.{is_event}
-use Rattle.kit_rules.specs.Delivery.{is_pending, pending, is_transported, has_bit, receivers_of, is_same, retracts, is_due, due_messages}
+use Rattle.kit_rules.specs.Delivery.{is_pending, pending_messages, is_transported, has_bit, receivers_of, is_same, retracts, is_due, due_messages}
 use Rattle.kit_laws.proofs.Pendings.{same_self}
 use Rattle.kit_parts.specs.Queues.{queue_of, QueueTakesEvent, QueueTakesRetraction, QueueDelivers, QueueKeeps, QueueIsReceived}
 use Rattle.kit_parts.proofs.Among.{Among, among_contains, contains_among, filter_among, any_among, among_any}
@@ -78,7 +78,7 @@ queue_takes_retraction_law p i got received r e =
 pub queue_delivers_law : QueueDelivers
 queue_delivers_law p i d got received =
     let early : Message → Bool = λ m. nat_le m.time d in
-    ap in_order (filter_both early (is_pending p i got received) received) ∙ sym (filter_in_order early (pending p i got received))
+    ap in_order (filter_both early (is_pending p i got received) received) ∙ sym (filter_in_order early (pending_messages p i got received))
 
 -- what is pending after a grant
 after_grant_test : (p : Parts) (i d : ℕ) (got received : List Message) (x : Message) → Among x received → is_pending p i (got ++ due_messages p i d got received) received x ≡ (nat_lt d x.time && is_pending p i got received x)
@@ -121,11 +121,11 @@ queue_keeps_law p i d got received =
     let late : Message → Bool = λ m. nat_lt d m.time in
     ap in_order (filter_same (is_pending p i (got ++ due_messages p i d got received) received) (λ x. late x && is_pending p i got received x) received (λ x a. after_grant_test p i d got received x a)
     ∙ filter_both late (is_pending p i got received) received)
-    ∙ sym (filter_in_order late (pending p i got received))
+    ∙ sym (filter_in_order late (pending_messages p i got received))
 
 pub queue_is_received_law : QueueIsReceived
 queue_is_received_law p i got received m c =
-    elim (arranged_among m [] (pending p i got received) (contains_among m (queue_of p i got received) c)) [
+    elim (arranged_among m [] (pending_messages p i got received) (contains_among m (queue_of p i got received) c)) [
       | inl n ↦ elim n [ ]
       | inr a ↦ (let r = filter_among (is_pending p i got received) m received a in (among_contains m received r.0, r.1))
     ]

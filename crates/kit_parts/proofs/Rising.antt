@@ -6,7 +6,7 @@ use Rattle.std.proofs.lemmas.List.Elements.{All-from_recursion, Contains-get_or}
 use Rattle.kit_base.proofs.Lists.{all-append}
 use Rattle.kit_rules.specs.Parts.{Parts}
 use Rattle.kit_rules.specs.Federation.{IsFederation}
-use Rattle.kit_rules.specs.Simulation.{Block, World, next_grant, started, granted_or_same, advanced, after_grants, simulated}
+use Rattle.kit_rules.specs.Simulation.{Block, World, next_grant, world_at_start, world_after_pair, next_world, after_grants, simulation}
 use Rattle.kit_laws.proofs.Ascending.{blocks_ascend_law}
 use Rattle.kit_laws.proofs.Rising.{grants}
 use Rattle.kit_parts.specs.Fronts.{is_grant_of, part}
@@ -20,7 +20,7 @@ use Rattle.kit_parts.proofs.Merged.{Sooner, sooner_cases, grant_of, ascend_rises
 abbrev Fine : Parts → Block → Type 0
 Fine p b = (1 ≤ b.time) × (b.time ≤ p.end)
 
-fine_once : (p : Parts) (last : ℕ × ℕ) (w : World) (o : Option (ℕ × ℕ)) → IsFederation p → OnWay p last w → AllByRecursion (Fine p) w.blocks → next_grant p w ≡ o → (l : ℕ × ℕ) × OnWay p l (granted_or_same p w o) × AllByRecursion (Fine p) (granted_or_same p w o).blocks
+fine_once : (p : Parts) (last : ℕ × ℕ) (w : World) (o : Option (ℕ × ℕ)) → IsFederation p → OnWay p last w → AllByRecursion (Fine p) w.blocks → next_grant p w ≡ o → (l : ℕ × ℕ) × OnWay p l (world_after_pair p w o) × AllByRecursion (Fine p) (world_after_pair p w o).blocks
 fine_once p last w None f way h e = (last, way, h)
 fine_once p last w (Some g) f way h e =
     let gr = grants p last w g way.reached e in
@@ -28,7 +28,7 @@ fine_once p last w (Some g) f way h e =
 
 fine_after : (p : Parts) (n : ℕ) (last : ℕ × ℕ) (w : World) → IsFederation p → OnWay p last w → AllByRecursion (Fine p) w.blocks → AllByRecursion (Fine p) (after_grants p n w).blocks
 fine_after p zero last w f way h = h
-fine_after p (suc n) last w f way h = let o = fine_once p last w (next_grant p w) f way h refl in fine_after p n o.0 (advanced p w) f o.1 o.2
+fine_after p (suc n) last w f way h = let o = fine_once p last w (next_grant p w) f way h refl in fine_after p n o.0 (next_world p w) f o.1 o.2
 
 -- the blocks of a federate rise
 rises_filter : {X : Type 0} (lt : X → X → Type 0) (test : X → Bool) (xs : List X) → Rises lt xs → Rises lt (filter test xs)
@@ -52,12 +52,12 @@ rises_pairs i (x ∷ xs) r own zero (suc b) d lt within =
 rises_pairs i (x ∷ xs) r own (suc a) (suc b) d lt within = rises_pairs i xs r.1 (λ y h. own y (inr h)) a b d (omega arith) (omega arith)
 
 part_federate : (p : Parts) (i : ℕ) (b : Block) → Among b (part p i) → b.federate ≡ i
-part_federate p i b a = eqb-true b.federate i (filter_among (is_grant_of i) b (simulated p).blocks a).1
+part_federate p i b a = eqb-true b.federate i (filter_among (is_grant_of i) b (simulation p).blocks a).1
 
 pub parts_rise_law : PartsRise
 parts_rise_law p f i =
-    let all : AllByRecursion (Fine p) (simulated p).blocks = fine_after p (length p.federates * p.end) (0, 0) (started p) f (started_way p f) tt in
+    let all : AllByRecursion (Fine p) (simulation p).blocks = fine_after p (length p.federates * p.end) (0, 0) (world_at_start p) f (started_way p f) tt in
     let Q : Block → Type 0 = λ b. (b.federate ≡ i) × (1 ≤ b.time) × (b.time ≤ p.end) in (
-      rises_pairs i (part p i) (rises_filter Sooner (is_grant_of i) (simulated p).blocks (ascend_rises (simulated p).blocks (blocks_ascend_law p f))) (λ b a. part_federate p i b a),
-      All-from_recursion Q (part p i) (for_each Q (part p i) (λ b a. let h = each_of (Fine p) b (simulated p).blocks all (filter_among (is_grant_of i) b (simulated p).blocks a).0 in (part_federate p i b a, h.0, h.1))),
+      rises_pairs i (part p i) (rises_filter Sooner (is_grant_of i) (simulation p).blocks (ascend_rises (simulation p).blocks (blocks_ascend_law p f))) (λ b a. part_federate p i b a),
+      All-from_recursion Q (part p i) (for_each Q (part p i) (λ b a. let h = each_of (Fine p) b (simulation p).blocks all (filter_among (is_grant_of i) b (simulation p).blocks a).0 in (part_federate p i b a, h.0, h.1))),
     )

@@ -4,12 +4,12 @@ use Rattle.std.specs.List.{Contains}
 use Rattle.std.proofs.lemmas.Bool.{cases_eq, cases_lt, lt-ltb}
 use Rattle.kit_base.specs.declared.message.Message.{Message}
 use Rattle.kit_rules.specs.Federation.{IsFederation}
-use Rattle.kit_rules.specs.Delivery.{pending, due_time}
+use Rattle.kit_rules.specs.Delivery.{pending_messages, due_time}
 use Rattle.kit_rules.specs.Parts.{Parts, federate_at, effective_lookahead}
 use Rattle.kit_rules.specs.declared.table.Trigger.TheVariants.{Start}
 use Rattle.kit_rules.specs.Step.{opening_state}
 use Rattle.std.proofs.lemmas.List.{get_or-set_other, get_or-set_same}
-use Rattle.kit_rules.specs.Simulation.{World, Seat, Block, seat_at, nobody_seated, seat_due, next_grant, started, started_seat, granted, granted_at, granted_or_same, after_grants, simulated}
+use Rattle.kit_rules.specs.Simulation.{World, Seat, Block, seat_at, nobody_seated, seat_due, next_grant, world_at_start, seat_at_start, world_after_grant, seat_after_pair, world_after_pair, after_grants, simulation}
 use Rattle.kit_laws.proofs.Least.{next_stands}
 use Rattle.kit_laws.proofs.Pendings.{From}
 use Rattle.kit_laws.proofs.Rising.{grants}
@@ -54,7 +54,7 @@ short_front p j xs ys fx fy le =
     take_drop (suc n) (x ∷ xs) = ap (λ ys. x ∷ ys) (take_drop n xs)
 
 -- what a federate within its front sent is among what its front sent
-pub within_sent : (p : Parts) (last : ℕ × ℕ) (w : World) (n j : ℕ) (q : Progress) (m : Message) → OnWay p last w → after_grants p n w ≡ simulated p → j < length p.federates → AreFront p j q → Within p j q w
+pub within_sent : (p : Parts) (last : ℕ × ℕ) (w : World) (n j : ℕ) (q : Progress) (m : Message) → OnWay p last w → after_grants p n w ≡ simulation p → j < length p.federates → AreFront p j q → Within p j q w
     → Among m (seat_at w j).state.sends → Among m (sent_by p j q)
 within_sent p last w n j q m way goes lt front within a =
     let F : Option (List Block) → Type 0 = λ o. IfSome o (IsFront p j) in
@@ -67,18 +67,18 @@ within_sent p last w n j q m way goes lt front within a =
 
 module _ (p : Parts) (f : IsFederation p) (bound : ℕ) (all : ℕ → Progress) (cut : Cut p bound all) where
   -- whatever was received is of the simulation
-  pub received_real : (i : ℕ) → i < length p.federates → (r : Message) → Among r (all i).received → Among r (simulated p).messages
+  pub received_real : (i : ℕ) → i < length p.federates → (r : Message) → Among r (all i).received → Among r (simulation p).messages
   received_real i lt r a =
       let s = cut.sent i lt r (among_contains r (all i).received a) in
       of r (all r.sender).done (cut.fronts r.sender s.0) (contains_among r (sent_by p r.sender (all r.sender)) s.1) s.0
     where
-      of : (r : Message) (o : Option (List Block)) → IfSome o (IsFront p r.sender) → Among r (sends_after p r.sender o) → r.sender < length p.federates → Among r (simulated p).messages
+      of : (r : Message) (o : Option (List Block)) → IfSome o (IsFront p r.sender) → Among r (sends_after p r.sender o) → r.sender < length p.federates → Among r (simulation p).messages
       of r None front a lt = elim a [ ]
       of r (Some done) front a lt = (front_sent p r.sender done r f lt front a).0
 
   -- a federate at its front, which is granted next: the bound is not above its time and its lookahead
-  pub caught_up : (n : ℕ) (last : ℕ × ℕ) (w : World) (g : ℕ × ℕ) → OnWay p last w → (next : next_grant p w ≡ Some g) → after_grants p n (granted p w g) ≡ simulated p → Safe p bound all w
-      → (within : Within p g.1 (all g.1) w) → length within.blocks ≤ length (blocks_of g.1 w.blocks) → after_grants p (suc n) w ≡ simulated p → bound ≤ g.0 + effective_lookahead p g.1
+  pub caught_up : (n : ℕ) (last : ℕ × ℕ) (w : World) (g : ℕ × ℕ) → OnWay p last w → (next : next_grant p w ≡ Some g) → after_grants p n (world_after_grant p w g) ≡ simulation p → Safe p bound all w
+      → (within : Within p g.1 (all g.1) w) → length within.blocks ≤ length (blocks_of g.1 w.blocks) → after_grants p (suc n) w ≡ simulation p → bound ≤ g.0 + effective_lookahead p g.1
   caught_up n last w g way next goes safe within le whole =
       let i = g.1 in
       let lt = granted_within p last w g way next in
@@ -104,8 +104,8 @@ module _ (p : Parts) (f : IsFederation p) (bound : ℕ) (all : ℕ → Progress)
           elim (cases_lt g.0 bound) [
             | inr ge ↦ (let q : bound ≤ g.0 = ge in omega arith)
             | inl below ↦ (let q : g.0 < bound = below in
-                let sooner : due_time s.request (pending p g.1 s.got (all g.1).received) ≤ due_time s.request (pending p g.1 s.got w.messages) =
-                due_no_later s.request (pending p g.1 s.got w.messages) (pending p g.1 s.got (all g.1).received) (λ m a e.
+                let sooner : due_time s.request (pending_messages p g.1 s.got (all g.1).received) ≤ due_time s.request (pending_messages p g.1 s.got w.messages) =
+                due_no_later s.request (pending_messages p g.1 s.got w.messages) (pending_messages p g.1 s.got (all g.1).received) (λ m a e.
                 let h2 = pending_among p g.1 s.got w.messages m a in
                 let time : m.time ≡ g.0 = e ∙ sym st.due in
                 let sender = sender_within p last w m way h2.0 in
@@ -117,14 +117,14 @@ module _ (p : Parts) (f : IsFederation p) (bound : ℕ) (all : ℕ → Progress)
           ]
 
   -- what a grant leaves of it
-  each_granted : (n : ℕ) (last : ℕ × ℕ) (w : World) (g : ℕ × ℕ) → OnWay p last w → (next : next_grant p w ≡ Some g) → after_grants p n (granted p w g) ≡ simulated p → Safe p bound all w → after_grants p (suc n) w ≡ simulated p
-      → (j : ℕ) → j < length p.federates → Within p j (all j) (granted p w g) ⊎ (bound ≤ (seat_at (granted p w g) j).now + effective_lookahead p j)
+  each_granted : (n : ℕ) (last : ℕ × ℕ) (w : World) (g : ℕ × ℕ) → OnWay p last w → (next : next_grant p w ≡ Some g) → after_grants p n (world_after_grant p w g) ≡ simulation p → Safe p bound all w → after_grants p (suc n) w ≡ simulation p
+      → (j : ℕ) → j < length p.federates → Within p j (all j) (world_after_grant p w g) ⊎ (bound ≤ (seat_at (world_after_grant p w g) j).now + effective_lookahead p j)
   each_granted n last w g way next goes safe whole j lt =
       let gr = grants p last w g way.reached next in
-      let here : seat_at (granted p w g) g.1 ≡ granted_at p w g = get_or-set_same w.seats g.1 (granted_at p w g) nobody_seated gr.within in
-      let Q : ℕ → Type 0 = λ k. Within p k (all k) (granted p w g) ⊎ (bound ≤ (seat_at (granted p w g) k).now + effective_lookahead p k) in
+      let here : seat_at (world_after_grant p w g) g.1 ≡ seat_after_pair p w g = get_or-set_same w.seats g.1 (seat_after_pair p w g) nobody_seated gr.within in
+      let Q : ℕ → Type 0 = λ k. Within p k (all k) (world_after_grant p w g) ⊎ (bound ≤ (seat_at (world_after_grant p w g) k).now + effective_lookahead p k) in
       let N : Seat → Type 0 = λ s. bound ≤ s.now + effective_lookahead p g.1 in
-      let one : length (blocks_of g.1 (granted p w g).blocks) ≡ length (blocks_of g.1 w.blocks) + 1 = ap length (blocks_here g.1 w.blocks (next_block p w g) refl) ∙ length-append (blocks_of g.1 w.blocks) (next_block p w g ∷ []) in
+      let one : length (blocks_of g.1 (world_after_grant p w g).blocks) ≡ length (blocks_of g.1 w.blocks) + 1 = ap length (blocks_here g.1 w.blocks (next_block p w g) refl) ∙ length-append (blocks_of g.1 w.blocks) (next_block p w g ∷ []) in
       elim (cases_eq j g.1) [
         | inl e ↦ subst Q (sym e) (elim (safe.each g.1 (granted_within p last w g way next)) [
           | inl within ↦ elim (cases_lt (length (blocks_of g.1 w.blocks)) (length within.blocks)) [
@@ -134,35 +134,35 @@ module _ (p : Parts) (f : IsFederation p) (bound : ℕ) (all : ℕ → Progress)
           | inr past ↦ inr (subst N (sym here) (let q : bound ≤ (seat_at w g.1).now + effective_lookahead p g.1 = past in omega (arith, gr.forward)))
         ])
         | inr ne ↦ (let M : Seat → Type 0 = λ s. bound ≤ s.now + effective_lookahead p j in
-            let same : seat_at (granted p w g) j ≡ seat_at w j = get_or-set_other w.seats g.1 j (granted_at p w g) nobody_seated ne in
-            let few : blocks_of j (granted p w g).blocks ≡ blocks_of j w.blocks = blocks_there j w.blocks (next_block p w g) (λ q. ne (sym q)) in
+            let same : seat_at (world_after_grant p w g) j ≡ seat_at w j = get_or-set_other w.seats g.1 j (seat_after_pair p w g) nobody_seated ne in
+            let few : blocks_of j (world_after_grant p w g).blocks ≡ blocks_of j w.blocks = blocks_there j w.blocks (next_block p w g) (λ q. ne (sym q)) in
             elim (safe.each j lt) [
               | inl within ↦ inl (record { blocks = within.blocks; done = within.done; short = omega (arith, ap length few, within.short) })
               | inr past ↦ inr (subst M (sym same) past)
             ])
       ]
 
-  safe_granted : (n : ℕ) (last : ℕ × ℕ) (w : World) (g : ℕ × ℕ) → OnWay p last w → (next : next_grant p w ≡ Some g) → after_grants p n (granted p w g) ≡ simulated p → Safe p bound all w → after_grants p (suc n) w ≡ simulated p → Safe p bound all (granted p w g)
+  safe_granted : (n : ℕ) (last : ℕ × ℕ) (w : World) (g : ℕ × ℕ) → OnWay p last w → (next : next_grant p w ≡ Some g) → after_grants p n (world_after_grant p w g) ≡ simulation p → Safe p bound all w → after_grants p (suc n) w ≡ simulation p → Safe p bound all (world_after_grant p w g)
   safe_granted n last w g way next goes safe whole =
       let gr = grants p last w g way.reached next in
       let way2 = granted_way p last w g f way next in
       let each2 = each_granted n last w g way next goes safe whole in
       record {
         sent = λ m a lt.
-            let within = sender_within p g (granted p w g) m way2 a in
-            let has = sender_has p g (granted p w g) m way2 a in
+            let within = sender_within p g (world_after_grant p w g) m way2 a in
+            let has = sender_has p g (world_after_grant p w g) m way2 a in
             elim (made_or_old p last w g f way next m a) [
               | inl old ↦ safe.sent m old lt
               | inr late ↦ elim (cases_eq m.sender g.1) [
                 | inr ne ↦ (let P : Seat → Type 0 = λ s. Among m s.state.sends in
-                    let same : seat_at (granted p w g) m.sender ≡ seat_at w m.sender = get_or-set_other w.seats g.1 m.sender (granted_at p w g) nobody_seated ne in
+                    let same : seat_at (world_after_grant p w g) m.sender ≡ seat_at w m.sender = get_or-set_other w.seats g.1 m.sender (seat_after_pair p w g) nobody_seated ne in
                     safe.sent m (send_is p last w m.sender m way (subst P same has)).0 lt)
                 | inl e ↦ elim (each2 m.sender within) [
-                  | inl inside ↦ within_sent p g (granted p w g) n m.sender (all m.sender) m way2 goes within (cut.fronts m.sender within) inside has
+                  | inl inside ↦ within_sent p g (world_after_grant p w g) n m.sender (all m.sender) m way2 goes within (cut.fronts m.sender within) inside has
                   | inr past ↦ absurd (
                       let N : Seat → Type 0 = λ s. bound ≤ s.now + effective_lookahead p g.1 in
-                      let R : ℕ → Type 0 = λ k. bound ≤ (seat_at (granted p w g) k).now + effective_lookahead p k in
-                      let q : bound ≤ g.0 + effective_lookahead p g.1 = subst N (get_or-set_same w.seats g.1 (granted_at p w g) nobody_seated gr.within) (subst R e past) in
+                      let R : ℕ → Type 0 = λ k. bound ≤ (seat_at (world_after_grant p w g) k).now + effective_lookahead p k in
+                      let q : bound ≤ g.0 + effective_lookahead p g.1 = subst N (get_or-set_same w.seats g.1 (seat_after_pair p w g) nobody_seated gr.within) (subst R e past) in
                       let l : g.0 + effective_lookahead p g.1 ≤ m.time = late in
                       omega arith)
                 ]
@@ -172,38 +172,38 @@ module _ (p : Parts) (f : IsFederation p) (bound : ℕ) (all : ℕ → Progress)
       }
 
   safe_once : (n : ℕ) (last : ℕ × ℕ) (w : World) → OnWay p last w → Safe p bound all w
-      → ((l : ℕ × ℕ) (v : World) → OnWay p l v → after_grants p n v ≡ simulated p → Safe p bound all v → Safe p bound all (simulated p))
-      → (o : Option (ℕ × ℕ)) → next_grant p w ≡ o → after_grants p (suc n) w ≡ simulated p → after_grants p n (granted_or_same p w o) ≡ simulated p → Safe p bound all (simulated p)
+      → ((l : ℕ × ℕ) (v : World) → OnWay p l v → after_grants p n v ≡ simulation p → Safe p bound all v → Safe p bound all (simulation p))
+      → (o : Option (ℕ × ℕ)) → next_grant p w ≡ o → after_grants p (suc n) w ≡ simulation p → after_grants p n (world_after_pair p w o) ≡ simulation p → Safe p bound all (simulation p)
   safe_once n last w way safe rest None e whole goes = rest last w way goes safe
-  safe_once n last w way safe rest (Some g) e whole goes = rest g (granted p w g) (granted_way p last w g f way e) goes (safe_granted n last w g way e goes safe whole)
+  safe_once n last w way safe rest (Some g) e whole goes = rest g (world_after_grant p w g) (granted_way p last w g f way e) goes (safe_granted n last w g way e goes safe whole)
 
-  safe_after : (n : ℕ) (last : ℕ × ℕ) (w : World) → OnWay p last w → after_grants p n w ≡ simulated p → Safe p bound all w → Safe p bound all (simulated p)
+  safe_after : (n : ℕ) (last : ℕ × ℕ) (w : World) → OnWay p last w → after_grants p n w ≡ simulation p → Safe p bound all w → Safe p bound all (simulation p)
   safe_after zero last w way goes safe = subst (Safe p bound all) goes safe
   safe_after (suc n) last w way goes safe = safe_once n last w way safe (λ l v q h s. safe_after n l v q h s) (next_grant p w) refl goes goes
 
   -- the start
-  start_late : (j : ℕ) (m : Message) → j < length p.federates → Among m (started_seat p j).state.sends → effective_lookahead p j ≤ m.time
+  start_late : (j : ℕ) (m : Message) → j < length p.federates → Among m (seat_at_start p j).state.sends → effective_lookahead p j ≤ m.time
   start_late j m lt a =
       let k = gain_by_step p j Start 0 0 (opening_state (federate_at p j)) f lt in
       let P : List Message → Type 0 = λ xs. Among m xs → effective_lookahead p j ≤ m.time in
       subst P (sym k.sends) (λ b. let l : From (0 + effective_lookahead p j) m = each_of (From (0 + effective_lookahead p j)) m k.made k.late b in omega arith) a
 
-  each_started : (j : ℕ) → j < length p.federates → (o : Option (List Block)) → (all j).done ≡ o → Within p j (all j) (started p) ⊎ (bound ≤ effective_lookahead p j)
+  each_started : (j : ℕ) → j < length p.federates → (o : Option (List Block)) → (all j).done ≡ o → Within p j (all j) (world_at_start p) ⊎ (bound ≤ effective_lookahead p j)
   each_started j lt (Some done) e = inl (record { blocks = done; done = e; short = omega arith })
   each_started j lt None e =
       let R : Option (List Block) → Type 0 = λ o. bound ≤ promise_after p j (all j).waits (all j).received o in
       let h : bound ≤ promise_at p.end (effective_lookahead p j) 0 0 true = subst R e (cut.promised j lt) in inr (omega arith)
 
-  safe_started : Safe p bound all (started p)
+  safe_started : Safe p bound all (world_at_start p)
   safe_started =
       let way = started_way p f in
       record {
         sent = λ m a lt.
-            let within = sender_within p (0, 0) (started p) m way a in
-            let has = sender_has p (0, 0) (started p) m way a in
+            let within = sender_within p (0, 0) (world_at_start p) m way a in
+            let has = sender_has p (0, 0) (world_at_start p) m way a in
             let P : Seat → Type 0 = λ s. Among m s.state.sends in
             elim (each_started m.sender within (all m.sender).done refl) [
-              | inl inside ↦ within_sent p (0, 0) (started p) (length p.federates * p.end) m.sender (all m.sender) m way refl within (cut.fronts m.sender within) inside has
+              | inl inside ↦ within_sent p (0, 0) (world_at_start p) (length p.federates * p.end) m.sender (all m.sender) m way refl within (cut.fronts m.sender within) inside has
               | inr past ↦ absurd (let q : bound ≤ effective_lookahead p m.sender = past in omega (arith, start_late m.sender m within (subst P (seat_started p m.sender within) has)))
             ];
         each = λ j lt. elim (each_started j lt (all j).done refl) [
@@ -213,18 +213,18 @@ module _ (p : Parts) (f : IsFederation p) (bound : ℕ) (all : ℕ → Progress)
       }
 
   -- in the whole simulation
-  pub safe_whole : Safe p bound all (simulated p)
-  safe_whole = safe_after (length p.federates * p.end) (0, 0) (started p) (started_way p f) refl safe_started
+  pub safe_whole : Safe p bound all (simulation p)
+  safe_whole = safe_after (length p.federates * p.end) (0, 0) (world_at_start p) (started_way p f) refl safe_started
 
 pub nobody_sends_below_law : NobodySendsBelow
 nobody_sends_below_law p f bound all cut m c lt =
-    let a = contains_among m (simulated p).messages c in
+    let a = contains_among m (simulation p).messages c in
     let way = whole_way p f in
-    (sender_within p way.0 (simulated p) m way.1 a, among_contains m (sent_by p m.sender (all m.sender)) ((safe_whole p f bound all cut).sent m a lt))
+    (sender_within p way.0 (simulation p) m way.1 a, among_contains m (sent_by p m.sender (all m.sender)) ((safe_whole p f bound all cut).sent m a lt))
 
 pub all_is_heard_law : AllIsHeard
 all_is_heard_law p f bound all cut i lt = record {
-  sent = λ m c. (among_contains m (simulated p).messages (received_real p f bound all cut i lt m (contains_among m (all i).received c)), (cut.sent i lt m c).2);
+  sent = λ m c. (among_contains m (simulation p).messages (received_real p f bound all cut i lt m (contains_among m (all i).received c)), (cut.sent i lt m c).2);
   once = cut.once i lt;
   came = λ m c here below. let s = nobody_sends_below_law p f bound all cut m c below in cut.came i m.sender lt s.0 m s.1 here below;
 }

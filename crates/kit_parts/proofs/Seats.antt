@@ -9,7 +9,7 @@ use Rattle.kit_rules.specs.declared.scene.State.{State}
 use Rattle.kit_rules.specs.declared.table.Trigger.TheVariants.{Start}
 use Rattle.kit_rules.specs.Step.{is_event, opening_state}
 use Rattle.kit_rules.specs.Delivery.{retracts}
-use Rattle.kit_rules.specs.Simulation.{Seat, Block, started_seat}
+use Rattle.kit_rules.specs.Simulation.{Seat, Block, seat_at_start}
 use Rattle.kit_rules.proofs.Growth.{Grows, AreNumbered, AreNumbered-append, grows_by_step}
 use Rattle.kit_laws.proofs.Joins.{grows_by_block}
 use Rattle.kit_parts.specs.Fronts.{seat_with, seat_from, seat_after}
@@ -59,9 +59,9 @@ sound_more i t a b g h s =
       once = h.once s.once;
     }
 
-pub sound_start : (p : Parts) (i : ℕ) → IsFederation p → i < length p.federates → Sound i (started_seat p i).state
+pub sound_start : (p : Parts) (i : ℕ) → IsFederation p → i < length p.federates → Sound i (seat_at_start p i).state
 sound_start p i f lt =
-    sound_more i (0 + effective_lookahead p i) (opening_state (federate_at p i)) (started_seat p i).state (grows_by_step p i Start 0 0 (opening_state (federate_at p i))) (gain_by_step p i Start 0 0 (opening_state (federate_at p i)) f lt)
+    sound_more i (0 + effective_lookahead p i) (opening_state (federate_at p i)) (seat_at_start p i).state (grows_by_step p i Start 0 0 (opening_state (federate_at p i))) (gain_by_step p i Start 0 0 (opening_state (federate_at p i)) f lt)
     (record { numbered = tt; next = refl; named = tt; once = λ a b in_a in_b. elim in_a [ ] })
 
 pub sound_with : (p : Parts) (i : ℕ) (b : Block) (s : Seat) → IsFederation p → i < length p.federates → Sound i s.state → Sound i (seat_with p i b s).state
@@ -73,7 +73,7 @@ sound_from p i s (b ∷ bs) f lt h = sound_from p i (seat_with p i b s) bs f lt 
 
 -- after any blocks
 pub sound_after : (p : Parts) (i : ℕ) (done : List Block) → IsFederation p → i < length p.federates → Sound i (seat_after p i done).state
-sound_after p i done f lt = sound_from p i (started_seat p i) done f lt (sound_start p i f lt)
+sound_after p i done f lt = sound_from p i (seat_at_start p i) done f lt (sound_start p i f lt)
 
 -- blocks in two pieces
 pub from_append : (p : Parts) (i : ℕ) (s : Seat) (xs ys : List Block) → seat_from p i s (xs ++ ys) ≡ seat_from p i (seat_from p i s xs) ys
@@ -95,7 +95,7 @@ from_more p i s (b ∷ bs) m a = from_more p i (seat_with p i b s) bs m (with_mo
 pub after_more : (p : Parts) (i : ℕ) (xs ys : List Block) (m : Message) → Among m (seat_after p i xs).state.sends → Among m (seat_after p i (xs ++ ys)).state.sends
 after_more p i xs ys m a =
     let P : Seat → Type 0 = λ s. Among m s.state.sends in
-    subst P (sym (from_append p i (started_seat p i) xs ys)) (from_more p i (seat_after p i xs) ys m a)
+    subst P (sym (from_append p i (seat_at_start p i) xs ys)) (from_more p i (seat_after p i xs) ys m a)
 
 -- a Retraction of one of a federate's Events has its time and receivers
 pub retracts_facts : (m r : Message) → retracts m r ≡ true → (is_event r.kind ≡ false) × (r.sender ≡ m.sender) × (r.value ≡ m.number)

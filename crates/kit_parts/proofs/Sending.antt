@@ -4,7 +4,7 @@ use Rattle.std.specs.List.{flat_map}
 use Rattle.std.proofs.lemmas.List.{append_assoc, append-nil}
 use Rattle.kit_base.specs.declared.message.Message.{Message}
 use Rattle.kit_rules.specs.Parts.{Parts}
-use Rattle.kit_rules.specs.Simulation.{Seat, Block, started_seat}
+use Rattle.kit_rules.specs.Simulation.{Seat, Block, seat_at_start}
 use Rattle.kit_rules.proofs.Growth.{AreNumbered}
 use Rattle.kit_laws.proofs.Joins.{grows_by_block}
 use Rattle.kit_parts.specs.Fronts.{seat_with, seat_from, seat_after}
@@ -31,11 +31,11 @@ grow_from p i s (b ∷ bs) =
 pub sends_grow_law : SendsGrow
 sends_grow_law p i first rest =
     let r = grow_from p i (seat_after p i first) rest in
-    (r.0, ap (λ (s : Seat). s.state.sends) (from_append p i (started_seat p i) first rest) ∙ r.1)
+    (r.0, ap (λ (s : Seat). s.state.sends) (from_append p i (seat_at_start p i) first rest) ∙ r.1)
 
 got_from : (p : Parts) (i : ℕ) (s : Seat) (bs : List Block) → (seat_from p i s bs).got ≡ s.got ++ flat_map (λ (b : Block). b.delivered) bs
 got_from p i s [] = sym (append-nil s.got)
 got_from p i s (b ∷ bs) = got_from p i (seat_with p i b s) bs ∙ append_assoc s.got b.delivered (flat_map (λ (b : Block). b.delivered) bs)
 
 pub got_is_delivered_law : GotIsDelivered
-got_is_delivered_law p i done = got_from p i (started_seat p i) done
+got_is_delivered_law p i done = got_from p i (seat_at_start p i) done

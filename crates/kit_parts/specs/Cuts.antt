@@ -3,15 +3,15 @@ use Rattle.std.specs.Prelude.{◌≡◌, ◌≢◌, ◌⊎◌, ℕ, min, ◌+◌
 use Rattle.std.specs.List.{All}
 use Rattle.kit_base.specs.declared.message.Message.{Message}
 use Rattle.kit_rules.specs.Parts.{Parts}
-use Rattle.kit_rules.specs.Simulation.{simulated}
+use Rattle.kit_rules.specs.Simulation.{simulation}
 use Rattle.kit_parts.specs.Fronts.{AreFront, is_for, is_by, sent_by, Progress}
 use Rattle.kit_parts.specs.Promises.{promise}
 
 -- what federate i received is of the simulation and for it, nothing twice, and nothing below the bound is missing
 pub record Heard (p : Parts) (bound i : ℕ) (received : List Message) : Type 0 where
-  pub sent : (m : Message) → Contains received m → Contains (simulated p).messages m × (is_for p i m ≡ true)
+  pub sent : (m : Message) → Contains received m → Contains (simulation p).messages m × (is_for p i m ≡ true)
   pub once : AllPairs (λ a b. a ≢ b) received
-  pub came : (m : Message) → Contains (simulated p).messages m → is_for p i m ≡ true → m.time < bound → Contains received m
+  pub came : (m : Message) → Contains (simulation p).messages m → is_for p i m ≡ true → m.time < bound → Contains received m
 
 -- what was received was sent, nothing twice, all that was sent and is timed below the bound was received,
 -- and each federate promises the bound or more

@@ -5,7 +5,7 @@ use Rattle.kit_base.specs.declared.message.Message.{Message}
 use Rattle.kit_rules.specs.Parts.{Parts}
 use Rattle.kit_rules.specs.Federation.{IsFederation}
 use Rattle.kit_rules.specs.Delivery.{due_messages}
-use Rattle.kit_rules.specs.Simulation.{Block, block, lines_of, started_seat, seat_due}
+use Rattle.kit_rules.specs.Simulation.{Block, block, lines_of, seat_at_start, seat_due}
 use Rattle.kit_rules.specs.Text.{history_text, simulation_text}
 use Rattle.kit_parts.specs.Fronts.{seat_with, seat_after, part, is_for, Progress}
 use Rattle.kit_parts.specs.Cuts.{AreBounded}
@@ -42,7 +42,7 @@ abbrev pub after_start : Parts → Moment → ℕ → Moment
 after_start p a i = record {
   all = with_one a.all i (progress (Some []) true (a.all i).received);
   transit = a.transit;
-  waiting = with_one a.waiting i (λ j. filter (is_for p j) (started_seat p i).state.sends);
+  waiting = with_one a.waiting i (λ j. filter (is_for p j) (seat_at_start p i).state.sends);
 }
 
 -- what waited between these was posted by i to j

@@ -3,7 +3,7 @@ use Rattle.std.specs.Prelude.{◌≡◌, ℕ, ◌==◌, nat_lt, Bool, ◌&&◌, 
 use Rattle.kit_base.specs.declared.message.Message.{Message}
 use Rattle.kit_rules.specs.Parts.{Parts}
 use Rattle.kit_rules.specs.Delivery.{is_transported, has_bit, receivers_of}
-use Rattle.kit_rules.specs.Simulation.{Seat, Block, request_at, started_seat, after_block, simulated}
+use Rattle.kit_rules.specs.Simulation.{Seat, Block, request_at, seat_at_start, after_block, simulation}
 
 -- federate i after a block: a grant with its deliveries
 abbrev pub seat_with : Parts → ℕ → Block → Seat → Seat
@@ -18,7 +18,7 @@ seat_from p i s (b ∷ bs) = seat_from p i (seat_with p i b s) bs
 
 -- after its start's rules and these blocks
 abbrev pub seat_after : Parts → ℕ → List Block → Seat
-seat_after p i done = seat_from p i (started_seat p i) done
+seat_after p i done = seat_from p i (seat_at_start p i) done
 
 -- whether a block is a grant of federate i
 abbrev pub is_grant_of : ℕ → Block → Bool
@@ -30,7 +30,7 @@ blocks_of i blocks = filter (is_grant_of i) blocks
 
 -- federate i's part of the simulation
 abbrev pub part : Parts → ℕ → List Block
-part p i = blocks_of i (simulated p).blocks
+part p i = blocks_of i (simulation p).blocks
 
 -- these blocks are the first of the part
 abbrev pub IsFront : Parts → ℕ → List Block → Type 0

@@ -4,14 +4,14 @@ use Rattle.kit_base.specs.declared.message.Message.{Message}
 use Rattle.kit_rules.specs.Parts.{Parts}
 use Rattle.kit_rules.specs.Federation.{IsFederation}
 use Rattle.kit_rules.specs.Delivery.{due_messages}
-use Rattle.kit_rules.specs.Simulation.{Block, block, seat_due, simulated}
+use Rattle.kit_rules.specs.Simulation.{Block, block, seat_due, simulation}
 use Rattle.kit_parts.specs.Fronts.{seat_after, IsFront, is_for, is_by, sent_by, Progress}
 use Rattle.kit_parts.specs.Cuts.{Heard, Cut, AreSplit, AreSound, AreBounded, Carries}
 
 -- at a cut, all messages of the simulation that are timed below the bound were sent
 abbrev pub NobodySendsBelow : Type 0
 NobodySendsBelow = (p : Parts) → IsFederation p → (bound : ℕ) (all : ℕ → Progress) → Cut p bound all
-    → (m : Message) → Contains (simulated p).messages m → m.time < bound → (m.sender < length p.federates) × Contains (sent_by p m.sender (all m.sender)) m
+    → (m : Message) → Contains (simulation p).messages m → m.time < bound → (m.sender < length p.federates) × Contains (sent_by p m.sender (all m.sender)) m
 
 -- so what each federate received below the bound is all there will be
 abbrev pub AllIsHeard : Type 0

@@ -3,7 +3,7 @@ use Rattle.std.specs.Prelude.{◌≡◌, ◌≢◌, ℕ, ◌<◌, IsTrue, List, 
 use Rattle.std.specs.List.{All, range_with_len}
 use Rattle.kit_rules.specs.Parts.{Parts}
 use Rattle.kit_rules.specs.Federation.{IsFederation}
-use Rattle.kit_rules.specs.Simulation.{Block, is_sooner, lines_of, simulated}
+use Rattle.kit_rules.specs.Simulation.{Block, is_sooner, lines_of, simulation}
 use Rattle.kit_rules.specs.Text.{history_text, simulation_text}
 use Rattle.kit_laws.specs.Laws.{grants_of, Ascend}
 use Rattle.kit_parts.specs.Fronts.{seat_after, blocks_of, part}
@@ -28,7 +28,7 @@ OneMerge = (parts : List (List Block)) (a b : List Block) → IsMerge parts a �
 
 -- the simulation is the merge of its parts
 abbrev pub PartsMerge : Type 0
-PartsMerge = (p : Parts) → IsFederation p → IsMerge (parts_of p) (simulated p).blocks
+PartsMerge = (p : Parts) → IsFederation p → IsMerge (parts_of p) (simulation p).blocks
 
 -- so the merge of the parts and the variables that they leave make its text
 abbrev pub PartsMakeTheText : Type 0

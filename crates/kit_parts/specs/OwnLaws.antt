@@ -5,7 +5,7 @@ use Rattle.kit_base.specs.declared.message.Message.{Message}
 use Rattle.kit_rules.specs.Parts.{Parts}
 use Rattle.kit_rules.specs.Federation.{IsFederation}
 use Rattle.kit_rules.specs.Need.{is_outstanding, need_of}
-use Rattle.kit_rules.specs.Simulation.{Block, after_deliveries, simulated}
+use Rattle.kit_rules.specs.Simulation.{Block, after_deliveries, simulation}
 use Rattle.kit_parts.specs.Fronts.{is_for, seat_after, part, IsFront}
 use Rattle.kit_parts.specs.Cuts.{Heard}
 
@@ -23,7 +23,7 @@ EndsAreWhole = (p : Parts) → IsFederation p → (i : ℕ) → i < length p.fed
 
 -- where all is heard below a bound, nothing more comes that is timed below it
 abbrev pub NothingComesLate : Type 0
-NothingComesLate = (p : Parts) → (bound i : ℕ) (received : List Message) → Heard p bound i received → (m : Message) → Contains (simulated p).messages m → is_for p i m ≡ true → (Contains received m → ⊥) → bound ≤ m.time
+NothingComesLate = (p : Parts) → (bound i : ℕ) (received : List Message) → Heard p bound i received → (m : Message) → Contains (simulation p).messages m → is_for p i m ≡ true → (Contains received m → ⊥) → bound ≤ m.time
 
 -- what a federate has outstanding after any of its blocks is not more than its need
 abbrev pub NeedCovers : Type 0
@@ -37,7 +37,7 @@ NeedHolds = (p : Parts) → IsFederation p → (i : ℕ) → i < length p.federa
 
 -- federate i takes number 16,385 in the simulation
 abbrev pub Spends : Parts → ℕ → Type 0
-Spends p i = (m : Message) × Contains (simulated p).messages m × (m.sender ≡ i) × (m.number ≡ 16385)
+Spends p i = (m : Message) × Contains (simulation p).messages m × (m.sender ≡ i) × (m.number ≡ 16385)
 
 -- it does where it takes it in its start or in one of its blocks
 abbrev pub SpentAgrees : Type 0

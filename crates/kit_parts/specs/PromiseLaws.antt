@@ -6,9 +6,9 @@ use Rattle.kit_rules.specs.declared.table.Trigger.{Trigger}
 use Rattle.kit_rules.specs.declared.scene.State.{State}
 use Rattle.kit_rules.specs.Parts.{Parts, effective_lookahead}
 use Rattle.kit_rules.specs.Federation.{IsFederation}
-use Rattle.kit_rules.specs.Step.{stepped}
+use Rattle.kit_rules.specs.Step.{state_after}
 use Rattle.kit_rules.specs.Delivery.{due_messages}
-use Rattle.kit_rules.specs.Simulation.{Seat, Block, block, started_seat, seat_due}
+use Rattle.kit_rules.specs.Simulation.{Seat, Block, block, seat_at_start, seat_due}
 use Rattle.kit_parts.specs.Fronts.{seat_with, seat_after, IsFront, Progress}
 use Rattle.kit_parts.specs.Promises.{promise_after, promise, promise_time, GoesOn}
 use Rattle.kit_parts.specs.Cuts.{Heard}
@@ -21,11 +21,11 @@ pub record AddsFrom (t : ℕ) (old new : List Message) : Type 0 where
 
 -- a rule step adds to the sends what is timed now and the effective lookahead or later, Retractions too
 abbrev pub StepsSendLate : Type 0
-StepsSendLate = (p : Parts) → IsFederation p → (i : ℕ) → i < length p.federates → (on : Trigger) (now value : ℕ) (s : State) → AddsFrom (now + effective_lookahead p i) s.sends (stepped p i on now value s).sends
+StepsSendLate = (p : Parts) → IsFederation p → (i : ℕ) → i < length p.federates → (on : Trigger) (now value : ℕ) (s : State) → AddsFrom (now + effective_lookahead p i) s.sends (state_after p i on now value s).sends
 
 -- so does the start, at time 0
 abbrev pub StartsSendLate : Type 0
-StartsSendLate = (p : Parts) → IsFederation p → (i : ℕ) → i < length p.federates → All (λ (m : Message). effective_lookahead p i ≤ m.time) (started_seat p i).state.sends
+StartsSendLate = (p : Parts) → IsFederation p → (i : ℕ) → i < length p.federates → All (λ (m : Message). effective_lookahead p i ≤ m.time) (seat_at_start p i).state.sends
 
 -- and a grant with its deliveries
 abbrev pub GrantsSendLate : Type 0

@@ -8,14 +8,14 @@ use Rattle.kit_rules.specs.declared.table.Request.TheVariants.{Tar, Ner}
 use Rattle.kit_rules.specs.Parts.{Parts}
 use Rattle.kit_rules.specs.Federation.{IsFederation}
 use Rattle.kit_rules.specs.Step.{is_event}
-use Rattle.kit_rules.specs.Delivery.{is_pending, pending, is_transported, has_bit, receivers_of, retracts, due_time, due_messages}
-use Rattle.kit_rules.specs.Simulation.{Block, simulated, Seat, seat_due, block}
+use Rattle.kit_rules.specs.Delivery.{is_pending, pending_messages, is_transported, has_bit, receivers_of, retracts, due_time, due_messages}
+use Rattle.kit_rules.specs.Simulation.{Block, simulation, Seat, seat_due, block}
 use Rattle.kit_parts.specs.Fronts.{is_for, seat_after, IsFront}
 use Rattle.kit_parts.specs.Cuts.{Heard}
 
 -- the pending Events of federate i, in the order of delivery
 abbrev pub queue_of : Parts → ℕ → List Message → List Message → List Message
-queue_of p i got received = in_order (pending p i got received)
+queue_of p i got received = in_order (pending_messages p i got received)
 
 -- an Event that is received is put in its place, where it is pending
 abbrev pub QueueTakesEvent : Type 0
@@ -41,16 +41,16 @@ QueueIsReceived = (p : Parts) (i : ℕ) (got received : List Message) (m : Messa
 
 -- two messages of the simulation of one sender and number are one
 abbrev pub MessagesAreOne : Type 0
-MessagesAreOne = (p : Parts) → IsFederation p → (a b : Message) → Contains (simulated p).messages a → Contains (simulated p).messages b → a.sender ≡ b.sender → a.number ≡ b.number → a ≡ b
+MessagesAreOne = (p : Parts) → IsFederation p → (a b : Message) → Contains (simulation p).messages a → Contains (simulation p).messages b → a.sender ≡ b.sender → a.number ≡ b.number → a ≡ b
 
 -- a Retraction has the time and the group of what it takes back
 abbrev pub RetractionsAreLike : Type 0
-RetractionsAreLike = (p : Parts) → IsFederation p → (m r : Message) → Contains (simulated p).messages m → Contains (simulated p).messages r → retracts m r ≡ true → (r.time ≡ m.time) × (r.group ≡ m.group)
+RetractionsAreLike = (p : Parts) → IsFederation p → (m r : Message) → Contains (simulation p).messages m → Contains (simulation p).messages r → retracts m r ≡ true → (r.time ≡ m.time) × (r.group ≡ m.group)
 
 -- and what it names is an Event of the simulation, of a lower number
 abbrev pub RetractionsName : Type 0
-RetractionsName = (p : Parts) → IsFederation p → (r : Message) → Contains (simulated p).messages r → is_event r.kind ≡ false
-    → (m : Message) × Contains (simulated p).messages m × (is_event m.kind ≡ true) × (m.sender ≡ r.sender) × (m.number ≡ r.value) × (m.number < r.number) × (m.time ≡ r.time) × (m.group ≡ r.group)
+RetractionsName = (p : Parts) → IsFederation p → (r : Message) → Contains (simulation p).messages r → is_event r.kind ≡ false
+    → (m : Message) × Contains (simulation p).messages m × (is_event m.kind ≡ true) × (m.sender ≡ r.sender) × (m.number ≡ r.value) × (m.number < r.number) × (m.time ≡ r.time) × (m.group ≡ r.group)
 
 -- the queue stands in the order of time, so a grant of d delivers a front of it and leaves the rest
 abbrev pub QueueSplits : Type 0
@@ -58,7 +58,7 @@ QueueSplits = (p : Parts) (i d : ℕ) (got received : List Message) → queue_of
 
 -- and strictly in the order of keys, where what was received is of the simulation and nothing twice
 abbrev pub QueueIsOrdered : Type 0
-QueueIsOrdered = (p : Parts) → IsFederation p → (i : ℕ) (got received : List Message) → All (Contains (simulated p).messages) received → AllPairs (λ a b. a ≢ b) received → AllPairs (λ a b. is_before a b ≡ true) (queue_of p i got received)
+QueueIsOrdered = (p : Parts) → IsFederation p → (i : ℕ) (got received : List Message) → All (Contains (simulation p).messages) received → AllPairs (λ a b. a ≢ b) received → AllPairs (λ a b. is_before a b ≡ true) (queue_of p i got received)
 
 -- what a grant delivers was received, is timed its time or less, and was pending
 abbrev pub DueIsReceived : Type 0
@@ -70,13 +70,13 @@ CopiesAreTransported = (p : Parts) (i : ℕ) (sends : List Message) → filter (
 
 -- no two Retractions of one sender name the same
 abbrev pub RetractedOnce : Type 0
-RetractedOnce = (p : Parts) → IsFederation p → (a b : Message) → Contains (simulated p).messages a → Contains (simulated p).messages b → is_event a.kind ≡ false → is_event b.kind ≡ false
+RetractedOnce = (p : Parts) → IsFederation p → (a b : Message) → Contains (simulation p).messages a → Contains (simulation p).messages b → is_event a.kind ≡ false → is_event b.kind ≡ false
     → a.sender ≡ b.sender → a.value ≡ b.value → a ≡ b
 
 -- where all is heard below a bound, what stands in the queue and is timed below it is never taken back
 abbrev pub SettledIsSafe : Type 0
 SettledIsSafe = (p : Parts) → IsFederation p → (bound i : ℕ) (got received : List Message) → Heard p bound i received → (m : Message) → Contains (queue_of p i got received) m → m.time < bound
-    → (r : Message) → Contains (simulated p).messages r → retracts m r ≡ true → ⊥
+    → (r : Message) → Contains (simulation p).messages r → retracts m r ≡ true → ⊥
 
 -- and where that bound is later than now, all that stands in the queue is timed later than now
 abbrev pub QueueIsAhead : Type 0
@@ -90,7 +90,7 @@ first_by t (m ∷ ms) = min t m.time
 
 -- a Next Event Request is due by the first in the queue
 abbrev pub DueByFirst : Type 0
-DueByFirst = (p : Parts) (i t : ℕ) (got received : List Message) → due_time (Ner t) (pending p i got received) ≡ first_by t (queue_of p i got received)
+DueByFirst = (p : Parts) (i t : ℕ) (got received : List Message) → due_time (Ner t) (pending_messages p i got received) ≡ first_by t (queue_of p i got received)
 
 -- when a request is due by the queue
 abbrev pub due_of : Request → List Message → ℕ

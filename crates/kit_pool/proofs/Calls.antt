@@ -5,8 +5,8 @@ use Rattle.kit_ground.specs.declared.place.Deed.{Deed}
 use Rattle.kit_ground.specs.declared.place.Place.{Place}
 use Rattle.kit_ground.specs.Layout.{is_there}
 use Rattle.kit_ground.specs.Memory.{Memory}
-use Rattle.kit_ground.specs.Rules.{Rule, Told}
-use Rattle.kit_ground.specs.Steps.{Allowed, acted, address_of}
+use Rattle.kit_ground.specs.Rules.{Rule, WasFound}
+use Rattle.kit_ground.specs.Steps.{Allowed, place_after, address_of}
 use Rattle.kit_ground.proofs.WordSteps.{own_there}
 use Rattle.kit_pool.specs.Doing.{DidOn}
 use Rattle.kit_pool.specs.Seating.{Plans, place_in}
@@ -29,11 +29,11 @@ module _ {V : Type 0} (rule : Rule V) (first : ℕ → V) (number n b : ℕ) (de
       let here : is_there p.own.federates p.own.buffers (address_of p.own (deed 0)) ≡ true = own_there p.own (deed 0) 0 (omega arith) (plan.allowed 0) in
       subst (λ (x : (ℕ × ℕ) × Address). is_there x.0.0 x.0.1 x.1 ≡ true) (λ t. (((numbers.1 ∙ sym many) t, (numbers.2 ∙ sym wide) t), (sym (plan.address 0) ∙ sym e) t)) here
 
-  pub told_at : (x : ℕ) → Told rule p a x → Told rule p A x
-  told_at x = subst (λ (y : Address). Told rule p y x) e
+  pub told_at : (x : ℕ) → WasFound rule p a x → WasFound rule p A x
+  told_at x = subst (λ (y : Address). WasFound rule p y x) e
 
   -- the deed may be named by another number than the word that was found
-  pub did_as : (x y : ℕ) → deed x ≡ deed y → Told rule p a y → (q : Place V) → q ≡ acted next (deed x) p → DidOn rule p (deed x) q
+  pub did_as : (x y : ℕ) → deed x ≡ deed y → WasFound rule p a y → (q : Place V) → q ≡ place_after next (deed x) p → DidOn rule p (deed x) q
   did_as x y same told q is =
       let t = told_at y told in
       let found : y ≡ t.0 (address_of p.own (deed x)) = sym t.3 ∙ ap t.0 (plan.address x) in
@@ -46,5 +46,5 @@ module _ {V : Type 0} (rule : Rule V) (first : ℕ → V) (number n b : ℕ) (de
         own = ap (λ (r : Place V). r.own) is;
       }
 
-  pub did_at : (x : ℕ) → Told rule p a x → (q : Place V) → q ≡ acted next (deed x) p → DidOn rule p (deed x) q
+  pub did_at : (x : ℕ) → WasFound rule p a x → (q : Place V) → q ≡ place_after next (deed x) p → DidOn rule p (deed x) q
   did_at x = did_as x x (λ t. deed x)

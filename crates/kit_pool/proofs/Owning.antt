@@ -4,7 +4,7 @@ use mathlib.Core.Option.{some, some-injective}
 use lib.ListN.{get_elem?}
 use Rattle.kit_ground.specs.declared.place.Deed.{Deed}
 use Rattle.kit_ground.specs.declared.place.Place.{Place}
-use Rattle.kit_ground.specs.Steps.{acted}
+use Rattle.kit_ground.specs.Steps.{place_after}
 use Rattle.kit_pool.specs.Seating.{OnOwn, others_of, place_in}
 use Rattle.kit_pool.specs.Seats.{IsOwn}
 
@@ -26,8 +26,8 @@ module _ {V : Type 0} (first : ℕ → V) where
     pub own_numbers : ((place_in first desk).own.number ≡ number) × ((place_in first desk).own.federates ≡ n) × ((place_in first desk).own.buffers ≡ b)
     own_numbers = s.own (place_in first desk) (own_at desk s.there)
 
-    pub own_after_step : (now : List (Place V)) (next : Deed → Place V → V) (deed : Deed) → now ≡ acted next deed (place_in first desk) ∷ others_of desk → IsOwn number n b now
+    pub own_after_step : (now : List (Place V)) (next : Deed → Place V → V) (deed : Deed) → now ≡ place_after next deed (place_in first desk) ∷ others_of desk → IsOwn number n b now
     own_after_step now next deed is = subst (IsOwn number n b) (sym is) (record {
       there = omega arith;
-      own = λ p e. subst (λ (q : Place V). (q.own.number ≡ number) × (q.own.federates ≡ n) × (q.own.buffers ≡ b)) (some-injective (acted next deed (place_in first desk)) p e) own_numbers;
+      own = λ p e. subst (λ (q : Place V). (q.own.number ≡ number) × (q.own.federates ≡ n) × (q.own.buffers ≡ b)) (some-injective (place_after next deed (place_in first desk)) p e) own_numbers;
     })

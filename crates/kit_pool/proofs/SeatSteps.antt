@@ -10,8 +10,8 @@ use Rattle.kit_ground.specs.declared.place.Deed.{Deed}
 use Rattle.kit_ground.specs.declared.place.Place.{Place}
 use Rattle.kit_ground.specs.Layout.{index_of, is_there, memory_of}
 use Rattle.kit_ground.specs.Memory.{Memory}
-use Rattle.kit_ground.specs.Rules.{Rule, Told}
-use Rattle.kit_ground.specs.Steps.{acted, address_of, becomes}
+use Rattle.kit_ground.specs.Rules.{Rule, WasFound}
+use Rattle.kit_ground.specs.Steps.{place_after, address_of, becomes}
 use Rattle.kit_ground.specs.Words.{RuledWords}
 use Rattle.kit_ground.proofs.Lists.{at_inside}
 use Rattle.kit_ground.proofs.WordSteps as words
@@ -46,17 +46,17 @@ module _ {V : Type 0} (rule : Rule V) (n b : ℕ) (front : List ℕ) where
     finds_it : memory a ≡ found
     finds_it = ap (λ t. if t then slice_index whole (index_of (length r.all) b a) else 0) there ∙ (ap (slice_index whole) index ∙ get_behind front ws i)
 
-    told_here : Told rule p a found
+    told_here : WasFound rule p a found
     told_here = (memory, r.all, words.world rule b whole r.all r.ruled p.own.number p mine.0, finds_it)
 
     abbrev after : Place V
-    after = acted next (deed found) p
+    after = place_after next (deed found) p
 
     ruled_after : RuledWords rule b (front ++ slice_set ws i (f found)) (slice_set r.all p.own.number after)
     ruled_after =
         let x : ℕ = memory a in
         let made = words.words_step rule b whole r.all r.ruled p.own.number p mine.0 next a deed (plan.address x) (plan.allowed x) plan.keeps in
-        let here = subst (λ (y : ℕ). RuledWords rule b (slice_set whole (index_of (length r.all) b a) (becomes (deed y) y)) (slice_set r.all p.own.number (acted next (deed y) p))) finds_it made in
+        let here = subst (λ (y : ℕ). RuledWords rule b (slice_set whole (index_of (length r.all) b a) (becomes (deed y) y)) (slice_set r.all p.own.number (place_after next (deed y) p))) finds_it made in
         let moved : slice_set whole (index_of (length r.all) b a) (becomes (deed found) found) ≡ front ++ slice_set ws i (f found) =
         (λ t. slice_set whole (index t) (plan.makes found t)) ∙ set_behind front ws i (f found) in
         subst (λ (l : List ℕ). RuledWords rule b l (slice_set r.all p.own.number after)) moved here
@@ -79,25 +79,25 @@ module _ {V : Type 0} (rule : Rule V) (n b : ℕ) (front : List ℕ) where
 
   -- what a step asks of the table, from what it asks of the seat
   allowed : {S : Type 0} (next : Deed → Place V → V) (slots id : ℕ) (me : Me S Ps) (p : Place V) (ps : Ps) → me.0 ≡ p ∷ ps → (i : ℕ) (a : Address) → length front + i ≡ index_of n b a
-      → (f : ℕ → ℕ) (deed : ℕ → Deed) → Plans rule next p a f deed → (tell : ℕ → Me S Ps → Type 0) → ((x : ℕ) → Told rule p a x → tell x (acted next (deed x) p ∷ ps, me.1))
+      → (f : ℕ → ℕ) (deed : ℕ → Deed) → Plans rule next p a f deed → (tell : ℕ → Me S Ps → Type 0) → ((x : ℕ) → WasFound rule p a x → tell x (place_after next (deed x) p ∷ ps, me.1))
       → Allows (λ (s : State S Ps). Seated rule n b front s.words s.views) slots id me i f tell
   allowed next slots id me p ps is i a place f deed plan tell tells s r _ at _ =
       let at' : get_elem? s.views id ≡ some (p ∷ ps) = at ∙ ap (λ (d : Ps). some d) is in
       let x : ℕ = slice_index s.words i in
-      (acted next (deed x) p ∷ ps, keeps, tt, seated_after s.words s.views id p ps r at' next i a place f deed plan, tells x (told_here s.words s.views id p ps r at' next i a place f deed plan))
+      (place_after next (deed x) p ∷ ps, keeps, tt, seated_after s.words s.views id p ps r at' next i a place f deed plan, tells x (told_here s.words s.views id p ps r at' next i a place f deed plan))
 
   -- a step that tells what it found
   pub finds : {S : Type 0} (next : Deed → Place V → V) (slots id : ℕ) (me : Me S Ps) (p : Place V) (ps : Ps) → me.0 ≡ p ∷ ps → (i : ℕ) (a : Address) → length front + i ≡ index_of n b a
       → (f : ℕ → ℕ) (deed : ℕ → Deed) → Plans rule next p a f deed
       → Allows (λ (s : State S Ps). Seated rule n b front s.words s.views) slots id me i f (λ x after. Found rule next deed me x after)
   finds next slots id me p ps is i a place f deed plan = allowed next slots id me p ps is i a place f deed plan (λ x after. Found rule next deed me x after)
-      (λ x told. subst (OnOwn (λ q qs. (acted next (deed x) p ∷ ps ≡ acted next (deed x) q ∷ qs) × (me.1 ≡ me.1) × Told rule q (address_of q.own (deed x)) x)) (sym is)
-      (refl, refl, subst (λ (y : Address). Told rule p y x) (plan.address x) told))
+      (λ x told. subst (OnOwn (λ q qs. (place_after next (deed x) p ∷ ps ≡ place_after next (deed x) q ∷ qs) × (me.1 ≡ me.1) × WasFound rule q (address_of q.own (deed x)) x)) (sym is)
+      (refl, refl, subst (λ (y : Address). WasFound rule p y x) (plan.address x) told))
 
   -- a store of v, whose deed is the same whatever stood there
   pub stores : {S : Type 0} (next : Deed → Place V → V) (slots id : ℕ) (me : Me S Ps) (p : Place V) (ps : Ps) → me.0 ≡ p ∷ ps → (i : ℕ) (a : Address) → length front + i ≡ index_of n b a
       → (v : ℕ) (deed : ℕ → Deed) → Plans rule next p a (λ _. v) (λ _. deed v)
       → Allows (λ (s : State S Ps). Seated rule n b front s.words s.views) slots id me i (λ _. v) (λ _. Stored rule next deed me v)
   stores next slots id me p ps is i a place v deed plan = allowed next slots id me p ps is i a place (λ _. v) (λ _. deed v) plan (λ _. Stored rule next deed me v)
-      (λ x told. subst (OnOwn (λ q qs. (acted next (deed v) p ∷ ps ≡ acted next (deed v) q ∷ qs) × (me.1 ≡ me.1) × ((found : ℕ) × Told rule q (address_of q.own (deed v)) found))) (sym is)
-      (refl, refl, (x, subst (λ (y : Address). Told rule p y x) (plan.address x) told)))
+      (λ x told. subst (OnOwn (λ q qs. (place_after next (deed v) p ∷ ps ≡ place_after next (deed v) q ∷ qs) × (me.1 ≡ me.1) × ((found : ℕ) × WasFound rule q (address_of q.own (deed v)) found))) (sym is)
+      (refl, refl, (x, subst (λ (y : Address). WasFound rule p y x) (plan.address x) told)))

@@ -6,7 +6,7 @@ use Rattle.atomic_table.specs.Table.{State, Splits}
 use Rattle.atomic_table.proofs.Lists.{at_set}
 use Rattle.kit_ground.specs.declared.place.Place.{Place}
 use Rattle.kit_ground.specs.Layout.{size_of}
-use Rattle.kit_ground.specs.Rules.{Rule, blank, own_at_first, places_at_first, places_from}
+use Rattle.kit_ground.specs.Rules.{Rule, zero_memory, own_at_first, places_at_first, places_from}
 use Rattle.kit_ground.specs.Words.{RuledWords}
 use Rattle.kit_ground.proofs.PlainOpening.{ruled_opened}
 use Rattle.kit_ground.proofs.Starts.{length_places_from}
@@ -48,7 +48,7 @@ module _ {V : Type 0} where
       )
 
   -- the table's rule at the opening, where one seat has all places
-  pub opens : (rule : Rule V) (first : ℕ → V) (n b : ℕ) (front ws : List ℕ) → 1 ≤ n → n ≤ 16 → b ≤ 1024 → rule.holds blank (places_at_first first n b) → front ++ ws ≡ replicate (size_of n b) 0
+  pub opens : (rule : Rule V) (first : ℕ → V) (n b : ℕ) (front ws : List ℕ) → 1 ≤ n → n ≤ 16 → b ≤ 1024 → rule.holds zero_memory (places_at_first first n b) → front ++ ws ≡ replicate (size_of n b) 0
       → Seated rule n b front ws (places_at_first first n b ∷ [])
   opens rule first n b front ws positive few small h zeros = record {
     all = places_at_first first n b;

@@ -6,8 +6,8 @@ use Rattle.kit_ground.specs.declared.address.Address.{Address}
 use Rattle.kit_ground.specs.declared.place.Deed.{Deed}
 use Rattle.kit_ground.specs.declared.place.Place.{Place}
 use Rattle.kit_ground.specs.Layout.{index_of, is_there}
-use Rattle.kit_ground.specs.Rules.{Rule, Told}
-use Rattle.kit_ground.specs.Steps.{acted, address_of}
+use Rattle.kit_ground.specs.Rules.{Rule, WasFound}
+use Rattle.kit_ground.specs.Steps.{place_after, address_of}
 use Rattle.kit_ground.proofs.Layouts.{on_floor}
 use Rattle.kit_ground.proofs.WordSteps.{own_there}
 use Rattle.kit_pool.specs.Seating.{Found, OnOwn, Plans, Seated, Stored, others_of, place_in}
@@ -48,14 +48,14 @@ module _ {V : Type 0} (rule : Rule V) (first : ℕ → V) where
 
     module _ (after : Me S Ps) (deed : ℕ → Deed) (x : ℕ) where
       abbrev pub Told_so : Type 0 → Type 0
-      Told_so T = (after.0 ≡ acted next (deed x) mine ∷ others_of me.0) × (after.1 ≡ me.1) × T
+      Told_so T = (after.0 ≡ place_after next (deed x) mine ∷ others_of me.0) × (after.1 ≡ me.1) × T
 
-      pub was_found : (f : ℕ → ℕ) → Plans rule next mine a f deed → Found rule next deed me x after → Told_so (Told rule mine a x)
+      pub was_found : (f : ℕ → ℕ) → Plans rule next mine a f deed → Found rule next deed me x after → Told_so (WasFound rule mine a x)
       was_found f plan h =
-          let t = on_own first (λ p ps. (after.0 ≡ acted next (deed x) p ∷ ps) × (after.1 ≡ me.1) × Told rule p (address_of p.own (deed x)) x) me.0 own.there h in
-          (t.0, t.1, subst (λ (y : Address). Told rule mine y x) (sym (plan.address x)) t.2)
+          let t = on_own first (λ p ps. (after.0 ≡ place_after next (deed x) p ∷ ps) × (after.1 ≡ me.1) × WasFound rule p (address_of p.own (deed x)) x) me.0 own.there h in
+          (t.0, t.1, subst (λ (y : Address). WasFound rule mine y x) (sym (plan.address x)) t.2)
 
-      pub was_stored : (f : ℕ → ℕ) → Plans rule next mine a f (λ _. deed x) → Stored rule next deed me x after → Told_so ((found : ℕ) × Told rule mine a found)
+      pub was_stored : (f : ℕ → ℕ) → Plans rule next mine a f (λ _. deed x) → Stored rule next deed me x after → Told_so ((found : ℕ) × WasFound rule mine a found)
       was_stored f plan h =
-          let t = on_own first (λ p ps. (after.0 ≡ acted next (deed x) p ∷ ps) × (after.1 ≡ me.1) × ((found : ℕ) × Told rule p (address_of p.own (deed x)) found)) me.0 own.there h in
-          (t.0, t.1, (t.2.0, subst (λ (y : Address). Told rule mine y t.2.0) (sym (plan.address x)) t.2.1))
+          let t = on_own first (λ p ps. (after.0 ≡ place_after next (deed x) p ∷ ps) × (after.1 ≡ me.1) × ((found : ℕ) × WasFound rule p (address_of p.own (deed x)) found)) me.0 own.there h in
+          (t.0, t.1, (t.2.0, subst (λ (y : Address). WasFound rule mine y t.2.0) (sym (plan.address x)) t.2.1))

@@ -6,7 +6,7 @@ use Rattle.kit_ground.specs.declared.address.Address.{Address}
 use Rattle.kit_ground.specs.declared.place.Deed.{Deed}
 use Rattle.kit_ground.specs.declared.place.Place.{Place}
 use Rattle.kit_ground.specs.Layout.{index_of, size_of}
-use Rattle.kit_ground.specs.Rules.{Rule, blank, places_at_first}
+use Rattle.kit_ground.specs.Rules.{Rule, zero_memory, places_at_first}
 use Rattle.kit_pool.specs.Seating.{Found, Plans, Seated, Stored, others_of, own_of}
 
 module _ {V : Type 0} (rule : Rule V) where
@@ -37,5 +37,5 @@ module _ {V : Type 0} (rule : Rule V) where
 
   -- at the opening one seat has all places, and all words are 0
   abbrev pub OpensSo : Type 0
-  OpensSo = (first : ℕ → V) (n b : ℕ) (front words : List ℕ) → 1 ≤ n → n ≤ 16 → b ≤ 1024 → rule.holds blank (places_at_first first n b) → front ++ words ≡ replicate (size_of n b) 0
+  OpensSo = (first : ℕ → V) (n b : ℕ) (front words : List ℕ) → 1 ≤ n → n ≤ 16 → b ≤ 1024 → rule.holds zero_memory (places_at_first first n b) → front ++ words ≡ replicate (size_of n b) 0
       → Seated rule n b front words (places_at_first first n b ∷ [])

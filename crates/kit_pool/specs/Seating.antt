@@ -8,8 +8,8 @@ use Rattle.kit_ground.specs.declared.address.Address.{Address}
 use Rattle.kit_ground.specs.declared.place.Deed.{Deed}
 use Rattle.kit_ground.specs.declared.place.Deed.TheVariants.{Looked, SawStop, SawFree, Collected, ReadPart}
 use Rattle.kit_ground.specs.declared.place.Place.{Place}
-use Rattle.kit_ground.specs.Rules.{Keeps, Rule, Told, own_at_first}
-use Rattle.kit_ground.specs.Steps.{Allowed, acted, address_of, becomes}
+use Rattle.kit_ground.specs.Rules.{Keeps, Rule, WasFound, own_at_first}
+use Rattle.kit_ground.specs.Steps.{Allowed, place_after, address_of, becomes}
 use Rattle.kit_ground.specs.Words.{RuledWords}
 
 module _ {V : Type 0} where
@@ -46,11 +46,11 @@ module _ {V : Type 0} where
 
   -- what a step tells: the seat's own place is changed by the deed, and there was a world with the word that was found
   abbrev pub Found : {S : Type 0} → Rule V → (Deed → Place V → V) → (ℕ → Deed) → Me S (List (Place V)) → ℕ → Me S (List (Place V)) → Type 0
-  Found rule next deed me n after = OnOwn (λ p ps. (after.0 ≡ acted next (deed n) p ∷ ps) × (after.1 ≡ me.1) × Told rule p (address_of p.own (deed n)) n) me.0
+  Found rule next deed me n after = OnOwn (λ p ps. (after.0 ≡ place_after next (deed n) p ∷ ps) × (after.1 ≡ me.1) × WasFound rule p (address_of p.own (deed n)) n) me.0
 
   -- and what a store tells
   abbrev pub Stored : {S : Type 0} → Rule V → (Deed → Place V → V) → (ℕ → Deed) → Me S (List (Place V)) → ℕ → Me S (List (Place V)) → Type 0
-  Stored rule next deed me n after = OnOwn (λ p ps. (after.0 ≡ acted next (deed n) p ∷ ps) × (after.1 ≡ me.1) × ((found : ℕ) × Told rule p (address_of p.own (deed n)) found)) me.0
+  Stored rule next deed me n after = OnOwn (λ p ps. (after.0 ≡ place_after next (deed n) p ∷ ps) × (after.1 ≡ me.1) × ((found : ℕ) × WasFound rule p (address_of p.own (deed n)) found)) me.0
 
   -- what a step is to do at this address: it is allowed whatever it finds, makes f of the word, and keeps the client's rule in every world
   pub record Plans (rule : Rule V) (next : Deed → Place V → V) (p : Place V) (a : Address) (f : ℕ → ℕ) (deed : ℕ → Deed) : Type 0 where

@@ -6,8 +6,8 @@ ghost use lib.ListN.{get_elem?};
 ghost use Rattle.kit_ground.specs.declared.address.Address.TheVariants.{Mail, Count, Part};
 ghost use Rattle.kit_ground.specs.declared.place.Deed.TheVariants.{SawFree, Wrote, Charged, PostedTo, Collected, Released};
 ghost use Rattle.kit_ground.specs.Layout.{index_of, is_there, mail_words, size_of};
-ghost use Rattle.kit_ground.specs.Rules.{Told};
-ghost use Rattle.kit_ground.specs.Steps.{IsChargeable, IsMask, acted, buffer_of};
+ghost use Rattle.kit_ground.specs.Rules.{WasFound};
+ghost use Rattle.kit_ground.specs.Steps.{IsChargeable, IsMask, place_after, buffer_of};
 ghost use Rattle.kit_pool.specs.Pools.{as_it_is, bare_rule, no_client, unused};
 ghost use Rattle.kit_pool.specs.Seating.{others_of, place_in};
 ghost use Rattle.kit_pool.specs.Seats.{IsNewSeat, IsSized, IsWithin};
@@ -101,8 +101,8 @@ impl TableSeat<Bare> {
         requires buffer { buffer < (place_in no_client self.old.seat.me.0).own.buffers }
         requires posted { (buffer_of (place_in no_client self.old.seat.me.0).own.stock buffer).to_post ≡ 0 }
         ensures same { (self.new.seat.table_id ≡ self.old.seat.table_id) × (self.new.number ≡ self.old.number) × (self.new.federates ≡ self.old.federates) × (self.new.buffers ≡ self.old.buffers) }
-        ensures place { self.new.seat.me.0 ≡ acted as_it_is (SawFree buffer result) (place_in no_client self.old.seat.me.0) ∷ others_of self.old.seat.me.0 }
-        ensures told { (count : ℕ) × Told bare_rule (place_in no_client self.old.seat.me.0) (Count (place_in no_client self.old.seat.me.0).own.number buffer) count × (result ≡ (count == 0)) }
+        ensures place { self.new.seat.me.0 ≡ place_after as_it_is (SawFree buffer result) (place_in no_client self.old.seat.me.0) ∷ others_of self.old.seat.me.0 }
+        ensures told { (count : ℕ) × WasFound bare_rule (place_in no_client self.old.seat.me.0) (Count (place_in no_client self.old.seat.me.0).own.number buffer) count × (result ≡ (count == 0)) }
     {
         let owner = self.number();
         let address = Address::Count { owner, buffer };
@@ -119,8 +119,8 @@ impl TableSeat<Bare> {
         requires part { part < 2 }
         requires free { (buffer_of (place_in no_client self.old.seat.me.0).own.stock buffer).free ≡ true }
         ensures same { (self.new.seat.table_id ≡ self.old.seat.table_id) × (self.new.number ≡ self.old.number) × (self.new.federates ≡ self.old.federates) × (self.new.buffers ≡ self.old.buffers) }
-        ensures place { self.new.seat.me.0 ≡ acted as_it_is (Wrote buffer part word) (place_in no_client self.old.seat.me.0) ∷ others_of self.old.seat.me.0 }
-        ensures told { (found : ℕ) × Told bare_rule (place_in no_client self.old.seat.me.0) (Part (place_in no_client self.old.seat.me.0).own.number buffer part) found }
+        ensures place { self.new.seat.me.0 ≡ place_after as_it_is (Wrote buffer part word) (place_in no_client self.old.seat.me.0) ∷ others_of self.old.seat.me.0 }
+        ensures told { (found : ℕ) × WasFound bare_rule (place_in no_client self.old.seat.me.0) (Part (place_in no_client self.old.seat.me.0).own.number buffer part) found }
     {
         let owner = self.number();
         let address = Address::Part {
@@ -141,8 +141,8 @@ impl TableSeat<Bare> {
         requires ready { IsChargeable (place_in no_client self.old.seat.me.0).own buffer }
         requires mask { IsMask (place_in no_client self.old.seat.me.0).own mask }
         ensures same { (self.new.seat.table_id ≡ self.old.seat.table_id) × (self.new.number ≡ self.old.number) × (self.new.federates ≡ self.old.federates) × (self.new.buffers ≡ self.old.buffers) }
-        ensures place { self.new.seat.me.0 ≡ acted as_it_is (Charged buffer mask) (place_in no_client self.old.seat.me.0) ∷ others_of self.old.seat.me.0 }
-        ensures told { (count : ℕ) × Told bare_rule (place_in no_client self.old.seat.me.0) (Count (place_in no_client self.old.seat.me.0).own.number buffer) count }
+        ensures place { self.new.seat.me.0 ≡ place_after as_it_is (Charged buffer mask) (place_in no_client self.old.seat.me.0) ∷ others_of self.old.seat.me.0 }
+        ensures told { (count : ℕ) × WasFound bare_rule (place_in no_client self.old.seat.me.0) (Count (place_in no_client self.old.seat.me.0).own.number buffer) count }
     {
         let owner = self.number();
         let more = readers(mask);
@@ -160,8 +160,8 @@ impl TableSeat<Bare> {
         requires to { to < (place_in no_client self.old.seat.me.0).own.federates }
         requires owed { bit_at (buffer_of (place_in no_client self.old.seat.me.0).own.stock buffer).to_post to ≡ 1 }
         ensures same { (self.new.seat.table_id ≡ self.old.seat.table_id) × (self.new.number ≡ self.old.number) × (self.new.federates ≡ self.old.federates) × (self.new.buffers ≡ self.old.buffers) }
-        ensures place { self.new.seat.me.0 ≡ acted as_it_is (PostedTo buffer to) (place_in no_client self.old.seat.me.0) ∷ others_of self.old.seat.me.0 }
-        ensures told { (mail : ℕ) × Told bare_rule (place_in no_client self.old.seat.me.0) (Mail to (place_in no_client self.old.seat.me.0).own.number (buffer / 64)) mail }
+        ensures place { self.new.seat.me.0 ≡ place_after as_it_is (PostedTo buffer to) (place_in no_client self.old.seat.me.0) ∷ others_of self.old.seat.me.0 }
+        ensures told { (mail : ℕ) × WasFound bare_rule (place_in no_client self.old.seat.me.0) (Mail to (place_in no_client self.old.seat.me.0).own.number (buffer / 64)) mail }
     {
         let from = self.number();
         let word = mail_word(buffer);
@@ -181,8 +181,8 @@ impl TableSeat<Bare> {
         requires other { from ≢ (place_in no_client self.old.seat.me.0).own.number }
         requires word { word < mail_words (place_in no_client self.old.seat.me.0).own.buffers }
         ensures same { (self.new.seat.table_id ≡ self.old.seat.table_id) × (self.new.number ≡ self.old.number) × (self.new.federates ≡ self.old.federates) × (self.new.buffers ≡ self.old.buffers) }
-        ensures place { self.new.seat.me.0 ≡ acted as_it_is (Collected from word result) (place_in no_client self.old.seat.me.0) ∷ others_of self.old.seat.me.0 }
-        ensures told { Told bare_rule (place_in no_client self.old.seat.me.0) (Mail (place_in no_client self.old.seat.me.0).own.number from word) result }
+        ensures place { self.new.seat.me.0 ≡ place_after as_it_is (Collected from word result) (place_in no_client self.old.seat.me.0) ∷ others_of self.old.seat.me.0 }
+        ensures told { WasFound bare_rule (place_in no_client self.old.seat.me.0) (Mail (place_in no_client self.old.seat.me.0).own.number from word) result }
     {
         let to = self.number();
         let address = Address::Mail { to, from, word };
@@ -203,8 +203,8 @@ impl TableSeat<Bare> {
         requires buffer { buffer < (place_in no_client self.old.seat.me.0).own.buffers }
         requires held { bit_at (slice_index (place_in no_client self.old.seat.me.0).own.stock.holds from) buffer ≡ 1 }
         ensures same { (self.new.seat.table_id ≡ self.old.seat.table_id) × (self.new.number ≡ self.old.number) × (self.new.federates ≡ self.old.federates) × (self.new.buffers ≡ self.old.buffers) }
-        ensures place { self.new.seat.me.0 ≡ acted as_it_is (Released from buffer) (place_in no_client self.old.seat.me.0) ∷ others_of self.old.seat.me.0 }
-        ensures told { (count : ℕ) × Told bare_rule (place_in no_client self.old.seat.me.0) (Count from buffer) count }
+        ensures place { self.new.seat.me.0 ≡ place_after as_it_is (Released from buffer) (place_in no_client self.old.seat.me.0) ∷ others_of self.old.seat.me.0 }
+        ensures told { (count : ℕ) × WasFound bare_rule (place_in no_client self.old.seat.me.0) (Count from buffer) count }
     {
         let address = Address::Count {
             owner: from,

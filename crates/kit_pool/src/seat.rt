@@ -4,8 +4,8 @@ ghost use Rattle.std.specs.Int.Count.{ones};
 ghost use mathlib.Core.Option.{some};
 ghost use lib.ListN.{get_elem?};
 ghost use Rattle.kit_ground.specs.Layout.{index_of, size_of};
-ghost use Rattle.kit_ground.specs.Rules.{Told, blank, own_at_first, places_at_first, places_from};
-ghost use Rattle.kit_ground.specs.Steps.{acted};
+ghost use Rattle.kit_ground.specs.Rules.{WasFound, zero_memory, own_at_first, places_at_first, places_from};
+ghost use Rattle.kit_ground.specs.Steps.{place_after};
 ghost use Rattle.kit_pool.specs.Seating.{Plans, others_of, place_in};
 ghost use Rattle.kit_pool.specs.Seats.{IsNewSeat, IsOwn, IsSized, IsWithin, gathered};
 
@@ -80,8 +80,8 @@ impl<P: Protocol> TableSeat<P> {
         requires at { length (F.front self.old.federates) + at ≡ index_of self.old.federates self.old.buffers address }
         requires plan { Plans P.rule E.next (place_in (P.first table.now.shared.key.opening.value) self.old.seat.me.0) address (λ n. n) D.deed }
         ensures same { (self.new.seat.table_id ≡ self.old.seat.table_id) × (self.new.number ≡ self.old.number) × (self.new.federates ≡ self.old.federates) × (self.new.buffers ≡ self.old.buffers) }
-        ensures place { self.new.seat.me.0 ≡ acted E.next (D.deed result) (place_in (P.first table.now.shared.key.opening.value) self.old.seat.me.0) ∷ others_of self.old.seat.me.0 }
-        ensures told { Told P.rule (place_in (P.first table.now.shared.key.opening.value) self.old.seat.me.0) address result }
+        ensures place { self.new.seat.me.0 ≡ place_after E.next (D.deed result) (place_in (P.first table.now.shared.key.opening.value) self.old.seat.me.0) ∷ others_of self.old.seat.me.0 }
+        ensures told { WasFound P.rule (place_in (P.first table.now.shared.key.opening.value) self.old.seat.me.0) address result }
     {
         let seat = &mut self.seat;
         table.shared.load::<Finds<P, E, D>>(seat, at)
@@ -101,8 +101,8 @@ impl<P: Protocol> TableSeat<P> {
         requires at { length (F.front self.old.federates) + at ≡ index_of self.old.federates self.old.buffers address }
         requires plan { Plans P.rule E.next (place_in (P.first table.now.shared.key.opening.value) self.old.seat.me.0) address (λ _. 0) D.deed }
         ensures same { (self.new.seat.table_id ≡ self.old.seat.table_id) × (self.new.number ≡ self.old.number) × (self.new.federates ≡ self.old.federates) × (self.new.buffers ≡ self.old.buffers) }
-        ensures place { self.new.seat.me.0 ≡ acted E.next (D.deed result) (place_in (P.first table.now.shared.key.opening.value) self.old.seat.me.0) ∷ others_of self.old.seat.me.0 }
-        ensures told { Told P.rule (place_in (P.first table.now.shared.key.opening.value) self.old.seat.me.0) address result }
+        ensures place { self.new.seat.me.0 ≡ place_after E.next (D.deed result) (place_in (P.first table.now.shared.key.opening.value) self.old.seat.me.0) ∷ others_of self.old.seat.me.0 }
+        ensures told { WasFound P.rule (place_in (P.first table.now.shared.key.opening.value) self.old.seat.me.0) address result }
     {
         let seat = &mut self.seat;
         table.shared.swap::<Finds<P, E, D>>(seat, at, 0)
@@ -123,8 +123,8 @@ impl<P: Protocol> TableSeat<P> {
         requires at { length (F.front self.old.federates) + at ≡ index_of self.old.federates self.old.buffers address }
         requires plan { Plans P.rule E.next (place_in (P.first table.now.shared.key.opening.value) self.old.seat.me.0) address (λ n. (n + more) % 2 ^ 64) D.deed }
         ensures same { (self.new.seat.table_id ≡ self.old.seat.table_id) × (self.new.number ≡ self.old.number) × (self.new.federates ≡ self.old.federates) × (self.new.buffers ≡ self.old.buffers) }
-        ensures place { self.new.seat.me.0 ≡ acted E.next (D.deed result) (place_in (P.first table.now.shared.key.opening.value) self.old.seat.me.0) ∷ others_of self.old.seat.me.0 }
-        ensures told { Told P.rule (place_in (P.first table.now.shared.key.opening.value) self.old.seat.me.0) address result }
+        ensures place { self.new.seat.me.0 ≡ place_after E.next (D.deed result) (place_in (P.first table.now.shared.key.opening.value) self.old.seat.me.0) ∷ others_of self.old.seat.me.0 }
+        ensures told { WasFound P.rule (place_in (P.first table.now.shared.key.opening.value) self.old.seat.me.0) address result }
     {
         let seat = &mut self.seat;
         table.shared.fetch_add::<Finds<P, E, D>>(seat, at, more)
@@ -144,8 +144,8 @@ impl<P: Protocol> TableSeat<P> {
         requires at { length (F.front self.old.federates) + at ≡ index_of self.old.federates self.old.buffers address }
         requires plan { Plans P.rule E.next (place_in (P.first table.now.shared.key.opening.value) self.old.seat.me.0) address (λ n. (n + (2 ^ 64 - 1)) % 2 ^ 64) D.deed }
         ensures same { (self.new.seat.table_id ≡ self.old.seat.table_id) × (self.new.number ≡ self.old.number) × (self.new.federates ≡ self.old.federates) × (self.new.buffers ≡ self.old.buffers) }
-        ensures place { self.new.seat.me.0 ≡ acted E.next (D.deed result) (place_in (P.first table.now.shared.key.opening.value) self.old.seat.me.0) ∷ others_of self.old.seat.me.0 }
-        ensures told { Told P.rule (place_in (P.first table.now.shared.key.opening.value) self.old.seat.me.0) address result }
+        ensures place { self.new.seat.me.0 ≡ place_after E.next (D.deed result) (place_in (P.first table.now.shared.key.opening.value) self.old.seat.me.0) ∷ others_of self.old.seat.me.0 }
+        ensures told { WasFound P.rule (place_in (P.first table.now.shared.key.opening.value) self.old.seat.me.0) address result }
     {
         let seat = &mut self.seat;
         table.shared.fetch_sub::<Finds<P, E, D>>(seat, at, 1)
@@ -166,8 +166,8 @@ impl<P: Protocol> TableSeat<P> {
         requires at { length (F.front self.old.federates) + at ≡ index_of self.old.federates self.old.buffers address }
         requires plan { Plans P.rule E.next (place_in (P.first table.now.shared.key.opening.value) self.old.seat.me.0) address (λ n. bit_or n bits) D.deed }
         ensures same { (self.new.seat.table_id ≡ self.old.seat.table_id) × (self.new.number ≡ self.old.number) × (self.new.federates ≡ self.old.federates) × (self.new.buffers ≡ self.old.buffers) }
-        ensures place { self.new.seat.me.0 ≡ acted E.next (D.deed result) (place_in (P.first table.now.shared.key.opening.value) self.old.seat.me.0) ∷ others_of self.old.seat.me.0 }
-        ensures told { Told P.rule (place_in (P.first table.now.shared.key.opening.value) self.old.seat.me.0) address result }
+        ensures place { self.new.seat.me.0 ≡ place_after E.next (D.deed result) (place_in (P.first table.now.shared.key.opening.value) self.old.seat.me.0) ∷ others_of self.old.seat.me.0 }
+        ensures told { WasFound P.rule (place_in (P.first table.now.shared.key.opening.value) self.old.seat.me.0) address result }
     {
         let seat = &mut self.seat;
         table.shared.fetch_or::<Finds<P, E, D>>(seat, at, bits)
@@ -188,8 +188,8 @@ impl<P: Protocol> TableSeat<P> {
         requires at { length (F.front self.old.federates) + at ≡ index_of self.old.federates self.old.buffers address }
         requires plan { Plans P.rule E.next (place_in (P.first table.now.shared.key.opening.value) self.old.seat.me.0) address (λ _. word) (λ _. D.deed word) }
         ensures same { (self.new.seat.table_id ≡ self.old.seat.table_id) × (self.new.number ≡ self.old.number) × (self.new.federates ≡ self.old.federates) × (self.new.buffers ≡ self.old.buffers) }
-        ensures place { self.new.seat.me.0 ≡ acted E.next (D.deed word) (place_in (P.first table.now.shared.key.opening.value) self.old.seat.me.0) ∷ others_of self.old.seat.me.0 }
-        ensures told { (found : ℕ) × Told P.rule (place_in (P.first table.now.shared.key.opening.value) self.old.seat.me.0) address found }
+        ensures place { self.new.seat.me.0 ≡ place_after E.next (D.deed word) (place_in (P.first table.now.shared.key.opening.value) self.old.seat.me.0) ∷ others_of self.old.seat.me.0 }
+        ensures told { (found : ℕ) × WasFound P.rule (place_in (P.first table.now.shared.key.opening.value) self.old.seat.me.0) address found }
     {
         let seat = &mut self.seat;
         table.shared.store::<Stores<P, E, D>>(seat, at, word);
@@ -239,7 +239,7 @@ pub fn lay<P: Protocol, F: Front>(
     requires buffers { buffers ≤ 1024 }
     requires words { F.front federates ++ words.now ≡ replicate (size_of federates buffers) 0 }
     requires some { 0 < length words.now }
-    requires rule { P.rule.holds blank (places_at_first (P.first opening.now) federates buffers) }
+    requires rule { P.rule.holds zero_memory (places_at_first (P.first opening.now) federates buffers) }
     ensures laid { IfOk result (λ r. (r.0.shared.key.federates ≡ federates) × (r.0.shared.key.buffers ≡ buffers) × (r.0.shared.key.opening.value ≡ opening.now)) }
     ensures words { IfOk result (λ r. r.0.shared.table_id.words ≡ length words.now) }
     ensures sized { IfOk result (λ r. IsSized (F.front federates) federates buffers r.0.shared.table_id) }

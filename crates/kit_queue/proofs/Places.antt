@@ -11,7 +11,7 @@ use Rattle.std.proofs.lemmas.Option.{slice_get_past}
 use Rattle.kit_base.specs.Order.{key_cmp, is_before}
 use Rattle.kit_base.specs.declared.message.Message.{Message}
 use Rattle.kit_queue.specs.declared.entry.Entry.{Entry}
-use Rattle.kit_queue.specs.Entries.{messages_of, is_numbered, shares_number, IsInOrder, AreNumberedApart, put_entry, entry_of, without, is_settleable, settled, settled_first, buffer_of, first_buffer}
+use Rattle.kit_queue.specs.Entries.{messages_of, is_numbered, shares_number, IsInOrder, AreNumberedApart, put_entry, entry_of, entries_without, is_settleable, without_buffer, with_first_settled, buffer_of, first_buffer}
 use Rattle.kit_queue.proofs.Keys.{key_cmp_total}
 
 -- the test is false
@@ -65,29 +65,29 @@ put_at e (x ∷ xs) (suc i) l f t =
     ∙ ap (λ ys. x ∷ ys) (put_at e xs i (omega arith) (λ k d h. f (suc k) d (omega arith)) (λ d h. t d (omega arith)))
 
 -- all but the entries of a number that no message has are all
-all_others : (sender number : ℕ) (m : Message) (es : List Entry) → is_numbered sender number m ≡ true → AllByRecursion (λ y. shares_number m y ≡ false) (messages_of es) → without sender number es ≡ es
+all_others : (sender number : ℕ) (m : Message) (es : List Entry) → is_numbered sender number m ≡ true → AllByRecursion (λ y. shares_number m y ≡ false) (messages_of es) → entries_without sender number es ≡ es
 all_others sender number m [] t a = refl
 all_others sender number m (x ∷ xs) t a =
     let parts = and_parts (m.sender == sender) (m.number == number) t in
     let far : is_numbered sender number x.message ≡ false = ap (λ s. is_numbered s number x.message) (sym (eqb-true _ _ parts.0)) ∙ ap (λ n. is_numbered m.sender n x.message) (sym (eqb-true _ _ parts.1)) ∙ a.0 in
-    ap (λ b. cond (not b) (x ∷ without sender number xs) (without sender number xs)) far ∙ ap (λ ys. x ∷ ys) (all_others sender number m xs t a.1)
+    ap (λ b. cond (not b) (x ∷ entries_without sender number xs) (entries_without sender number xs)) far ∙ ap (λ ys. x ∷ ys) (all_others sender number m xs t a.1)
 
 -- to take out the entry of a number leaves those of other numbers
 removed : (sender number : ℕ) (es : List Entry) (i : ℕ) (d : Entry) → AreNumberedApart es → i < length es → is_numbered sender number (get_or es i d).message ≡ true
     → ((k : ℕ) → k < i → is_numbered sender number (get_or es k d).message ≡ false)
-    → without sender number es ≡ remove es i
+    → entries_without sender number es ≡ remove es i
 unfolding IsDistinct
 removed sender number [] i d s l t f = absurd (omega arith)
-removed sender number (x ∷ xs) zero d s l t f = ap (λ b. cond (not b) (x ∷ without sender number xs) (without sender number xs)) t ∙ all_others sender number x.message xs t s.0
+removed sender number (x ∷ xs) zero d s l t f = ap (λ b. cond (not b) (x ∷ entries_without sender number xs) (entries_without sender number xs)) t ∙ all_others sender number x.message xs t s.0
 removed sender number (x ∷ xs) (suc i) d s l t f =
-    ap (λ b. cond (not b) (x ∷ without sender number xs) (without sender number xs)) (f 0 (omega arith))
+    ap (λ b. cond (not b) (x ∷ entries_without sender number xs) (entries_without sender number xs)) (f 0 (omega arith))
     ∙ ap (λ ys. x ∷ ys) (removed sender number xs i d s.1 (omega arith) t (λ k h. f (suc k) (omega arith)))
 
 -- without the entry of a number that no entry has
-pub none_removed : (sender number : ℕ) (es : List Entry) → entry_of sender number es ≡ None → without sender number es ≡ es
+pub none_removed : (sender number : ℕ) (es : List Entry) → entry_of sender number es ≡ None → entries_without sender number es ≡ es
 none_removed sender number [] h = refl
 none_removed sender number (x ∷ xs) h =
-    elim (is_numbered sender number x.message) as (λ b. cond b (Some x) (entry_of sender number xs) ≡ None → cond (not b) (x ∷ without sender number xs) (without sender number xs) ≡ x ∷ xs) [
+    elim (is_numbered sender number x.message) as (λ b. cond b (Some x) (entry_of sender number xs) ≡ None → cond (not b) (x ∷ entries_without sender number xs) (entries_without sender number xs) ≡ x ∷ xs) [
       | true ↦ λ e. cc
       | false ↦ λ e. ap (λ ys. x ∷ ys) (none_removed sender number xs e)
     ] h
@@ -95,18 +95,18 @@ none_removed sender number (x ∷ xs) h =
 -- the first entry that can be settled is the one that changes
 settled_at : (below : ℕ) (es : List Entry) (i : ℕ) (d : Entry) → i < length es → is_settleable below (get_or es i d) ≡ true
     → ((k : ℕ) → k < i → is_settleable below (get_or es k d) ≡ false)
-    → settled_first below es ≡ set es i (settled (get_or es i d))
+    → with_first_settled below es ≡ set es i (without_buffer (get_or es i d))
 settled_at below [] i d l t f = absurd (omega arith)
-settled_at below (x ∷ xs) zero d l t f = ap (λ b. cond b (settled x ∷ xs) (x ∷ settled_first below xs)) t
+settled_at below (x ∷ xs) zero d l t f = ap (λ b. cond b (without_buffer x ∷ xs) (x ∷ with_first_settled below xs)) t
 settled_at below (x ∷ xs) (suc i) d l t f =
-    ap (λ b. cond b (settled x ∷ xs) (x ∷ settled_first below xs)) (f 0 (omega arith))
+    ap (λ b. cond b (without_buffer x ∷ xs) (x ∷ with_first_settled below xs)) (f 0 (omega arith))
     ∙ ap (λ ys. x ∷ ys) (settled_at below xs i d (omega arith) t (λ k h. f (suc k) (omega arith)))
 
 -- nothing changes where no entry can be settled
-pub none_settled : (below : ℕ) (es : List Entry) → find (is_settleable below) es ≡ None → settled_first below es ≡ es
+pub none_settled : (below : ℕ) (es : List Entry) → find (is_settleable below) es ≡ None → with_first_settled below es ≡ es
 none_settled below [] h = refl
 none_settled below (x ∷ xs) h =
-    elim (is_settleable below x) as (λ b. cond b (Some x) (find (is_settleable below) xs) ≡ None → cond b (settled x ∷ xs) (x ∷ settled_first below xs) ≡ x ∷ xs) [
+    elim (is_settleable below x) as (λ b. cond b (Some x) (find (is_settleable below) xs) ≡ None → cond b (without_buffer x ∷ xs) (x ∷ with_first_settled below xs) ≡ x ∷ xs) [
       | true ↦ λ e. cc
       | false ↦ λ e. ap (λ ys. x ∷ ys) (none_settled below xs e)
     ] h
@@ -137,14 +137,14 @@ missed p xs h =
     beyond false n e = refl
 
 -- to take out the entry at its first place leaves those of other numbers
-pub removed_at : (sender number : ℕ) (es : List Entry) (i : ℕ) (e : Entry) → AreNumberedApart es → position (λ (x : Entry). is_numbered sender number x.message) es ≡ Some i → without sender number es ≡ remove es i
+pub removed_at : (sender number : ℕ) (es : List Entry) (i : ℕ) (e : Entry) → AreNumberedApart es → position (λ (x : Entry). is_numbered sender number x.message) es ≡ Some i → entries_without sender number es ≡ remove es i
 removed_at sender number es i e d h = let first = position-Some (λ (x : Entry). is_numbered sender number x.message) es i e h in removed sender number es i e d first.0 first.1 first.2
 
 -- the entry at the first place that can be settled is the one that changes
-pub settled_place : (below : ℕ) (es : List Entry) (i : ℕ) (e : Entry) → position (is_settleable below) es ≡ Some i → e ≡ get_or es i e → settled_first below es ≡ set es i (settled e)
+pub settled_place : (below : ℕ) (es : List Entry) (i : ℕ) (e : Entry) → position (is_settleable below) es ≡ Some i → e ≡ get_or es i e → with_first_settled below es ≡ set es i (without_buffer e)
 settled_place below es i e h same =
     let first = position-Some (is_settleable below) es i e h in
-    settled_at below es i e first.0 first.1 first.2 ∙ ap (λ x. set es i (settled x)) (sym same)
+    settled_at below es i e first.0 first.1 first.2 ∙ ap (λ x. set es i (without_buffer x)) (sym same)
 
 -- an entry that can be settled has a buffer
 pub has_buffer : (below : ℕ) (e : Entry) → is_settleable below e ≡ true → e.buffer ≡ None → ⊥

@@ -7,7 +7,7 @@ use Rattle.std.proofs.lemmas.List.Kept.{IsStrictlySortedBy-filter}
 use Rattle.kit_base.specs.Order.{key_cmp, is_before, put}
 use Rattle.kit_base.specs.declared.message.Message.{Message}
 use Rattle.kit_queue.specs.declared.entry.Entry.{Entry}
-use Rattle.kit_queue.specs.Entries.{messages_of, is_numbered, shares_number, IsInOrder, AreNumberedApart, put_entry, entry_of, without, is_settleable, settled, settled_first}
+use Rattle.kit_queue.specs.Entries.{messages_of, is_numbered, shares_number, IsInOrder, AreNumberedApart, put_entry, entry_of, entries_without, is_settleable, without_buffer, with_first_settled}
 use Rattle.kit_queue.proofs.Keys.{sorted_put, distinct_put, distinct_filter}
 
 -- the messages, once an entry is put in its place
@@ -29,10 +29,10 @@ messages_of-filter p (x ∷ xs) =
     ]
 
 -- to settle an entry leaves the messages
-messages_of-settled_first : (below : ℕ) (es : List Entry) → messages_of (settled_first below es) ≡ messages_of es
+messages_of-settled_first : (below : ℕ) (es : List Entry) → messages_of (with_first_settled below es) ≡ messages_of es
 messages_of-settled_first below [] = refl
 messages_of-settled_first below (x ∷ xs) =
-    elim (is_settleable below x) as (λ b. messages_of (cond b (settled x ∷ xs) (x ∷ settled_first below xs)) ≡ x.message ∷ messages_of xs) [
+    elim (is_settleable below x) as (λ b. messages_of (cond b (without_buffer x ∷ xs) (x ∷ with_first_settled below xs)) ≡ x.message ∷ messages_of xs) [
       | true ↦ refl
       | false ↦ ap (λ ms. x.message ∷ ms) (messages_of-settled_first below xs)
     ]
@@ -55,23 +55,23 @@ pub apart_put : (e : Entry) (es : List Entry) → entry_of e.message.sender e.me
 apart_put e es new d = subst (IsDistinct shares_number) (sym (messages_of-put_entry e es)) (distinct_put e.message (messages_of es) (others e.message es new) d)
 
 -- to take out the entry of a number leaves the list in order
-pub in_order_without : (sender number : ℕ) (es : List Entry) → IsInOrder es → IsInOrder (without sender number es)
+pub in_order_without : (sender number : ℕ) (es : List Entry) → IsInOrder es → IsInOrder (entries_without sender number es)
 in_order_without sender number es s =
     let p : Message → Bool = λ m. not (is_numbered sender number m) in
     subst (IsStrictlySortedBy key_cmp) (sym (messages_of-filter p es)) (IsStrictlySortedBy-filter key_cmp p (messages_of es) s)
 
 -- and its numbers apart
-pub apart_without : (sender number : ℕ) (es : List Entry) → AreNumberedApart es → AreNumberedApart (without sender number es)
+pub apart_without : (sender number : ℕ) (es : List Entry) → AreNumberedApart es → AreNumberedApart (entries_without sender number es)
 apart_without sender number es d =
     let p : Message → Bool = λ m. not (is_numbered sender number m) in
     subst (IsDistinct shares_number) (sym (messages_of-filter p es)) (distinct_filter p (messages_of es) d)
 
 -- to settle an entry leaves the list in order
-pub in_order_settled : (below : ℕ) (es : List Entry) → IsInOrder es → IsInOrder (settled_first below es)
+pub in_order_settled : (below : ℕ) (es : List Entry) → IsInOrder es → IsInOrder (with_first_settled below es)
 in_order_settled below es s = subst (IsStrictlySortedBy key_cmp) (sym (messages_of-settled_first below es)) s
 
 -- and its numbers apart
-pub apart_settled : (below : ℕ) (es : List Entry) → AreNumberedApart es → AreNumberedApart (settled_first below es)
+pub apart_settled : (below : ℕ) (es : List Entry) → AreNumberedApart es → AreNumberedApart (with_first_settled below es)
 apart_settled below es d = subst (IsDistinct shares_number) (sym (messages_of-settled_first below es)) d
 
 -- what is left once the first entry is taken is in order

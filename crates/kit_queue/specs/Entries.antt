@@ -44,21 +44,21 @@ abbrev pub entry_of : ℕ → ℕ → List Entry → Option Entry
 entry_of sender number es = find (λ e. is_numbered sender number e.message) es
 
 -- the list without the entry of this sender and number
-abbrev pub without : ℕ → ℕ → List Entry → List Entry
-without sender number es = filter (λ e. not (is_numbered sender number e.message)) es
+abbrev pub entries_without : ℕ → ℕ → List Entry → List Entry
+entries_without sender number es = filter (λ e. not (is_numbered sender number e.message)) es
 
 -- whether an entry is timed below `below` and has a buffer
 abbrev pub is_settleable : ℕ → Entry → Bool
 is_settleable below e = nat_lt e.message.time below && is_some e.buffer
 
 -- the entry with its buffer given up
-abbrev pub settled : Entry → Entry
-settled e = record e { buffer = None }
+abbrev pub without_buffer : Entry → Entry
+without_buffer e = record e { buffer = None }
 
 -- the list in which the first entry that can be settled is settled
-abbrev pub settled_first : ℕ → List Entry → List Entry
-settled_first below [] = []
-settled_first below (e ∷ es) = if is_settleable below e then settled e ∷ es else e ∷ settled_first below es
+abbrev pub with_first_settled : ℕ → List Entry → List Entry
+with_first_settled below [] = []
+with_first_settled below (e ∷ es) = if is_settleable below e then without_buffer e ∷ es else e ∷ with_first_settled below es
 
 -- an entry's sender with the buffer that it has
 abbrev pub buffer_of : Entry → Option (ℕ × ℕ)

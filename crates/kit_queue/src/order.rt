@@ -9,7 +9,7 @@ pub trait Order {
     ghost use Rattle.std.specs.Prelude.{◌≡◌, ◌<◌, ◌≤◌, ◌+◌, ℕ, List, [], ◌++◌, ◌↔◌, IsOk, IsNone, IfNone, OnOk, OnErr};
     ghost use Rattle.std.specs.Option.{option_to_list};
     ghost use Rattle.kit_queue.specs.declared.entry.Entry.{Entry};
-    ghost use Rattle.kit_queue.specs.Entries.{IsInOrder, AreNumberedApart, put_entry, entry_of, without, settled_first, first_buffer, first_time, first_due};
+    ghost use Rattle.kit_queue.specs.Entries.{IsInOrder, AreNumberedApart, put_entry, entry_of, entries_without, with_first_settled, first_buffer, first_time, first_due};
 
     // The entries in the order of their keys.
     ghost entries: { Self → List Entry };
@@ -39,7 +39,7 @@ pub trait Order {
     /// Takes out the entry of this sender and number.
     fn retract(&mut self, sender: u8, number: u16) -> Option<Entry>
         ensures taken { result ≡ entry_of sender number (entries self.old) }
-        ensures rest { entries self.new ≡ without sender number (entries self.old) }
+        ensures rest { entries self.new ≡ entries_without sender number (entries self.old) }
         ensures none { IfNone result (entries self.new ≡ entries self.old) }
         ensures kept { spare self.old ≤ spare self.new };
 
@@ -47,7 +47,7 @@ pub trait Order {
     /// its sender and buffer. The entry stays.
     fn settle(&mut self, below: u64) -> Option<(u8, u16)>
         ensures taken { result ≡ first_buffer below (entries self.old) }
-        ensures rest { entries self.new ≡ settled_first below (entries self.old) }
+        ensures rest { entries self.new ≡ with_first_settled below (entries self.old) }
         ensures none { IfNone result (entries self.new ≡ entries self.old) }
         ensures kept { spare self.old ≤ spare self.new };
 

@@ -2,7 +2,7 @@
 use Rattle.std.proofs.Common.{subst, ◌-◌, ◌≡◌, ℕ, zero, suc, ◌+◌, ◌<◌, ◌≤◌, Bool, true, false, cond, ◌==◌, List, min, arith, refl, sym, ap, ◌∙◌, eq-eqb}
 use Rattle.std.specs.List.{range_with_len, filter}
 use Rattle.kit_model.specs.declared.share.Share.{Share}
-use Rattle.kit_model.specs.Blocks.{everybody, round_result, joined_over}
+use Rattle.kit_model.specs.Blocks.{everybody, round_result, share_sum_over}
 use Rattle.kit_model.proofs.Joining.{groups_decide}
 use Rattle.kit_model.proofs.Sieves.{least, least_le, all_pass}
 use Rattle.kit_rounds.specs.Rounds.{run_after}
@@ -63,4 +63,4 @@ result_low_greatest share n v one each = least_from (λ y. (share y).low) (share
 -- a result depends on what each contributed
 pub same_result : (n : ℕ) (share other : ℕ → Share) → 0 < n → ((j : ℕ) → j < n → share j ≡ other j) → round_result n share ≡ round_result n other
 same_result n share other some h =
-    ap (joined_over share 0) (sym (all_of n)) ∙ groups_decide n share other (λ _. true) 0 (h 0 some) (λ y lt _. h y lt) ∙ ap (joined_over other 0) (all_of n)
+    ap (share_sum_over share 0) (sym (all_of n)) ∙ groups_decide n share other (λ _. true) 0 (h 0 some) (λ y lt _. h y lt) ∙ ap (share_sum_over other 0) (all_of n)

@@ -14,7 +14,7 @@ use Rattle.kit_rules.specs.declared.table.Rule.{Rule}
 use Rattle.kit_rules.specs.Parts.{Parts, federate_at}
 use Rattle.kit_rules.specs.declared.scene.Scene.{Scene}
 use Rattle.kit_rules.specs.declared.scene.State.{State}
-use Rattle.kit_rules.specs.Step.{is_event, message_of, retraction_of, is_target, after_action, after_actions, after_rule, after_rules, same_trigger, conditions_hold, scene_of, stepped}
+use Rattle.kit_rules.specs.Step.{is_event, message_of, retraction_of, is_target, after_action, after_actions, after_rule, after_rules, same_trigger, conditions_hold, scene_of, state_after}
 use Rattle.kit_rules.proofs.Growth.{AreNumbered}
 
 -- whether a message is the Event that a Retraction names, with its time
@@ -116,7 +116,7 @@ aimed_by_rules scene on s (r ∷ rs) h =
     (elim (same_trigger r.on on && conditions_hold scene s.vars r.conds) as (λ b. Aimed (cond b (after_actions scene s r.actions) s)) [ true ↦ aimed_by_actions scene s r.actions h | false ↦ h ])
 
 -- the rule step keeps that own Retractions name own Events, by number and time
-pub aimed_by_step : (p : Parts) (i : ℕ) (on : Trigger) (now value : ℕ) (s : State) → Aimed s → Aimed (stepped p i on now value s)
+pub aimed_by_step : (p : Parts) (i : ℕ) (on : Trigger) (now value : ℕ) (s : State) → Aimed s → Aimed (state_after p i on now value s)
 aimed_by_step p i on now value s h = aimed_by_rules (scene_of p i now value) on s (federate_at p i).rules h
 
 -- numbers are those of one message, so a number of a list has one time

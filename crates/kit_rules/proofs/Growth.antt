@@ -10,7 +10,7 @@ use Rattle.kit_rules.specs.declared.table.Rule.{Rule}
 use Rattle.kit_rules.specs.Parts.{Parts, federate_at}
 use Rattle.kit_rules.specs.declared.scene.Scene.{Scene}
 use Rattle.kit_rules.specs.declared.scene.State.{State}
-use Rattle.kit_rules.specs.Step.{message_of, retraction_of, is_target, after_action, after_actions, after_rule, after_rules, same_trigger, conditions_hold, scene_of, stepped}
+use Rattle.kit_rules.specs.Step.{message_of, retraction_of, is_target, after_action, after_actions, after_rule, after_rules, same_trigger, conditions_hold, scene_of, state_after}
 
 -- messages of this sender, numbered from n on
 abbrev pub AreNumbered : ℕ → ℕ → List Message → Type 0
@@ -77,5 +77,5 @@ grows_by_rules scene on s [] = grows_none scene.sender s
 grows_by_rules scene on s (r ∷ rs) = grows_more scene.sender _ _ _ (grows_by_rule scene on s r) (grows_by_rules scene on (after_rule scene on s r) rs)
 
 -- the rule step adds messages of the federate
-pub grows_by_step : (p : Parts) (i : ℕ) (on : Trigger) (now value : ℕ) (s : State) → Grows i s (stepped p i on now value s)
+pub grows_by_step : (p : Parts) (i : ℕ) (on : Trigger) (now value : ℕ) (s : State) → Grows i s (state_after p i on now value s)
 grows_by_step p i on now value s = grows_by_rules (scene_of p i now value) on s (federate_at p i).rules

@@ -14,7 +14,7 @@ use Rattle.kit_rules.specs.Parts.{Parts, federate_at, nobody, effective_lookahea
 use Rattle.kit_rules.specs.Federation.{IsFederation, IsRule, IsAction, IsWish}
 use Rattle.kit_rules.specs.declared.scene.Scene.{Scene}
 use Rattle.kit_rules.specs.declared.scene.State.{State}
-use Rattle.kit_rules.specs.Step.{is_event, message_of, retraction_of, is_target, after_action, after_actions, after_rule, after_rules, same_trigger, conditions_hold, scene_of, stepped}
+use Rattle.kit_rules.specs.Step.{is_event, message_of, retraction_of, is_target, after_action, after_actions, after_rule, after_rules, same_trigger, conditions_hold, scene_of, state_after}
 use Rattle.kit_rules.proofs.Lookaheads.{rule_effective, lookahead_is_positive}
 
 -- an Event is timed after d
@@ -119,7 +119,7 @@ kept_by_rules scene groups vars on s (r ∷ rs) one h =
     (kept_by_rules scene groups vars on (after_rule scene on s r) rs one (All-tail (IsRule groups vars (Some scene.lookahead)) r rs h))
 
 -- the rule step of a federation keeps it
-pub kept_by_step : (p : Parts) (i : ℕ) (on : Trigger) (now value : ℕ) (s : State) → IsFederation p → i < length p.federates → Kept (length p.groups) now s (stepped p i on now value s)
+pub kept_by_step : (p : Parts) (i : ℕ) (on : Trigger) (now value : ℕ) (s : State) → IsFederation p → i < length p.federates → Kept (length p.groups) now s (state_after p i on now value s)
 unfolding effective_lookahead
 kept_by_step p i on now value s h lt =
     let f = h.federates.each i nobody lt in

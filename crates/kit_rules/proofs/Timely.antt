@@ -17,7 +17,7 @@ use Rattle.kit_rules.specs.Parts.{Parts, federate_at, nobody, effective_lookahea
 use Rattle.kit_rules.specs.Federation.{IsFederation, IsRule, IsAction}
 use Rattle.kit_rules.specs.declared.scene.Scene.{Scene}
 use Rattle.kit_rules.specs.declared.scene.State.{State}
-use Rattle.kit_rules.specs.Step.{is_event, message_of, retraction_of, is_target, after_action, after_actions, after_rule, after_rules, same_trigger, conditions_hold, scene_of, stepped}
+use Rattle.kit_rules.specs.Step.{is_event, message_of, retraction_of, is_target, after_action, after_actions, after_rule, after_rules, same_trigger, conditions_hold, scene_of, state_after}
 use Rattle.kit_rules.specs.Laws.{SendsKeepLookahead, OnlyRegulatingSend}
 
 -- there is a lookahead, and the message is no sooner than now and that
@@ -105,7 +105,7 @@ sends_by_rules scene groups vars n o on s (r ∷ rs) e h =
     (sends_by_rules scene groups vars n o on (after_rule scene on s r) rs e (All-tail (IsRule groups vars o) r rs h))
 
 -- and so is what the rule step of a federation sends
-sends_by_step : (p : Parts) (i : ℕ) (on : Trigger) (now value : ℕ) (s : State) → IsFederation p → i < length p.federates → Sends (federate_at p i).lookahead now s (stepped p i on now value s)
+sends_by_step : (p : Parts) (i : ℕ) (on : Trigger) (now value : ℕ) (s : State) → IsFederation p → i < length p.federates → Sends (federate_at p i).lookahead now s (state_after p i on now value s)
 unfolding effective_lookahead
 sends_by_step p i on now value s h lt =
     sends_by_rules (scene_of p i now value) (length p.groups) (length (federate_at p i).vars) (p.end + 1) (federate_at p i).lookahead on s (federate_at p i).rules refl (h.federates.each i nobody lt).rules

@@ -13,12 +13,12 @@ abbrev pub has_bit : ℕ → ℕ → Bool
 has_bit mask j = (mask / 2 ^ j) % 2 == 1
 
 -- the mask without a federate
-abbrev pub without : ℕ → ℕ → ℕ
-without mask j = if has_bit mask j then mask - 2 ^ j else mask
+abbrev pub without_bit : ℕ → ℕ → ℕ
+without_bit mask j = if has_bit mask j then mask - 2 ^ j else mask
 
 -- the members of a group but for the sender
 abbrev pub receivers_of : Parts → ℕ → ℕ → ℕ
-receivers_of p sender group = without (group_at p group).members sender
+receivers_of p sender group = without_bit (group_at p group).members sender
 
 -- in time, and somebody receives it
 abbrev pub is_transported : Parts → Message → Bool
@@ -37,8 +37,8 @@ abbrev pub is_pending : Parts → ℕ → List Message → List Message → Mess
 is_pending p i got sent m = is_event m.kind && is_transported p m && has_bit (receivers_of p m.sender m.group) i && not (list_any (is_same m) got) && not (list_any (retracts m) sent)
 
 -- the pending Events of federate i, of those that were sent
-abbrev pub pending : Parts → ℕ → List Message → List Message → List Message
-pending p i got sent = filter (is_pending p i got sent) sent
+abbrev pub pending_messages : Parts → ℕ → List Message → List Message → List Message
+pending_messages p i got sent = filter (is_pending p i got sent) sent
 
 -- the due time of a request where these are pending
 abbrev pub due_time : Request → List Message → ℕ

@@ -5,7 +5,7 @@ use Rattle.kit_rules.specs.declared.table.Trigger.{Trigger}
 use Rattle.kit_rules.specs.declared.scene.State.{State}
 use Rattle.kit_rules.specs.Parts.{Parts, federate_at, effective_lookahead}
 use Rattle.kit_rules.specs.Federation.{IsFederation}
-use Rattle.kit_rules.specs.Step.{stepped}
+use Rattle.kit_rules.specs.Step.{state_after}
 
 -- every effective lookahead is at least 1
 abbrev pub LookaheadsArePositive : Type 0
@@ -14,9 +14,9 @@ LookaheadsArePositive = (p : Parts) (i : ℕ) → IsFederation p → 1 ≤ effec
 -- what a federate sends at a time, Retractions among it, is timed no sooner than that time and its effective lookahead
 abbrev pub SendsKeepLookahead : Type 0
 SendsKeepLookahead = (p : Parts) (i : ℕ) (on : Trigger) (now value : ℕ) (s : State) → IsFederation p → i < length p.federates
-    → All (λ (m : Message). now + effective_lookahead p i ≤ m.time) (drop (length s.sends) (stepped p i on now value s).sends)
+    → All (λ (m : Message). now + effective_lookahead p i ≤ m.time) (drop (length s.sends) (state_after p i on now value s).sends)
 
 -- a federate that is not regulating sends nothing
 abbrev pub OnlyRegulatingSend : Type 0
 OnlyRegulatingSend = (p : Parts) (i : ℕ) (on : Trigger) (now value : ℕ) (s : State) → IsFederation p → i < length p.federates
-    → (federate_at p i).lookahead ≡ None → (stepped p i on now value s).sends ≡ s.sends
+    → (federate_at p i).lookahead ≡ None → (state_after p i on now value s).sends ≡ s.sends

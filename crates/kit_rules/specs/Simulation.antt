@@ -12,8 +12,8 @@ use Rattle.kit_rules.specs.declared.table.Request.{Request}
 use Rattle.kit_rules.specs.declared.table.Request.TheVariants as request
 use Rattle.kit_rules.specs.Parts.{Parts, federate_at}
 use Rattle.kit_rules.specs.declared.scene.State.{State}
-use Rattle.kit_rules.specs.Step.{stepped, opening_state}
-use Rattle.kit_rules.specs.Delivery.{pending, due_messages, due_time}
+use Rattle.kit_rules.specs.Step.{state_after, opening_state}
+use Rattle.kit_rules.specs.Delivery.{pending_messages, due_messages, due_time}
 
 -- a federate in the simulation: its time, its request, its state, and what was delivered to it
 pub record Seat : Type 0 where
@@ -44,20 +44,20 @@ request_at (wish.Tar step) now end = request.Tar (min (now + step) end)
 request_at (wish.Ner step) now end = request.Ner (min (now + step) end)
 
 -- a federate whose start's rules have run, and that has made its first request
-abbrev pub started_seat : Parts → ℕ → Seat
-started_seat p i =
-    let s = stepped p i trigger.Start 0 0 (opening_state (federate_at p i)) in
+abbrev pub seat_at_start : Parts → ℕ → Seat
+seat_at_start p i =
+    let s = state_after p i trigger.Start 0 0 (opening_state (federate_at p i)) in
     record { now = 0; request = request_at s.wish 0 p.end; state = s; got = [] }
 
 -- the start's rules of all federates have run, in the order of the federates
-abbrev pub started : Parts → World
-started p =
-    let seats = map (started_seat p) (range_with_len 0 (length p.federates)) in
+abbrev pub world_at_start : Parts → World
+world_at_start p =
+    let seats = map (seat_at_start p) (range_with_len 0 (length p.federates)) in
     record { seats = seats; messages = flat_map (λ (s : Seat). s.state.sends) seats; blocks = [] }
 
 -- the due time of a federate
 abbrev pub seat_due : Parts → List Message → ℕ → Seat → ℕ
-seat_due p sent i s = due_time s.request (pending p i s.got sent)
+seat_due p sent i s = due_time s.request (pending_messages p i s.got sent)
 
 -- due time and number of each federate below the end
 abbrev pub waiting_from : Parts → List Message → ℕ → List Seat → List (ℕ × ℕ)
@@ -69,31 +69,31 @@ abbrev pub is_sooner : ℕ × ℕ → ℕ × ℕ → Bool
 is_sooner a b = nat_lt a.0 b.0 || (a.0 == b.0 && nat_lt a.1 b.1)
 
 -- the less of two pairs
-abbrev pub sooner : Option (ℕ × ℕ) → ℕ × ℕ → ℕ × ℕ
-sooner None b = b
-sooner (Some a) b = if is_sooner b a then b else a
+abbrev pub sooner_pair : Option (ℕ × ℕ) → ℕ × ℕ → ℕ × ℕ
+sooner_pair None b = b
+sooner_pair (Some a) b = if is_sooner b a then b else a
 
 -- the least of the pairs and one that is known
-abbrev pub least : Option (ℕ × ℕ) → List (ℕ × ℕ) → Option (ℕ × ℕ)
-least best [] = best
-least best (x ∷ xs) = least (Some (sooner best x)) xs
+abbrev pub least_pair : Option (ℕ × ℕ) → List (ℕ × ℕ) → Option (ℕ × ℕ)
+least_pair best [] = best
+least_pair best (x ∷ xs) = least_pair (Some (sooner_pair best x)) xs
 
 -- the least pair of a due time and a federate below the end
 abbrev pub next_grant : Parts → World → Option (ℕ × ℕ)
-next_grant p w = least None (waiting_from p w.messages 0 w.seats)
+next_grant p w = least_pair None (waiting_from p w.messages 0 w.seats)
 
 -- the rules of the deliveries, in order
 abbrev pub after_deliveries : Parts → ℕ → ℕ → State → List Message → State
 after_deliveries p i d s [] = s
-after_deliveries p i d s (m ∷ ms) = after_deliveries p i d (stepped p i (trigger.Got m.group) d m.value s) ms
+after_deliveries p i d s (m ∷ ms) = after_deliveries p i d (state_after p i (trigger.Got m.group) d m.value s) ms
 
 -- and then those of the grant
 abbrev pub after_block : Parts → ℕ → ℕ → State → List Message → State
-after_block p i d s due = stepped p i trigger.Grant d 0 (after_deliveries p i d s due)
+after_block p i d s due = state_after p i trigger.Grant d 0 (after_deliveries p i d s due)
 
 -- federate i after a grant of d
-abbrev pub granted_seat : Parts → ℕ → ℕ → List Message → Seat → Seat
-granted_seat p i d sent s =
+abbrev pub seat_after_grant : Parts → ℕ → ℕ → List Message → Seat → Seat
+seat_after_grant p i d sent s =
     let due = due_messages p i d s.got sent in
     let after = after_block p i d s.state due in
     record { now = d; request = if nat_lt d p.end then request_at after.wish d p.end else s.request; state = after; got = s.got ++ due }
@@ -119,33 +119,33 @@ abbrev pub seat_at : World → ℕ → Seat
 seat_at w i = slice_index_or w.seats i nobody_seated
 
 -- the federate of a pair after its grant
-abbrev pub granted_at : Parts → World → ℕ × ℕ → Seat
-granted_at p w g = granted_seat p g.1 g.0 w.messages (seat_at w g.1)
+abbrev pub seat_after_pair : Parts → World → ℕ × ℕ → Seat
+seat_after_pair p w g = seat_after_grant p g.1 g.0 w.messages (seat_at w g.1)
 
 -- the world after the grant of the pair's time to its federate
-abbrev pub granted : Parts → World → ℕ × ℕ → World
-granted p w g =
+abbrev pub world_after_grant : Parts → World → ℕ × ℕ → World
+world_after_grant p w g =
     let old = seat_at w g.1 in
-    let new = granted_at p w g in
+    let new = seat_after_pair p w g in
     record { seats = slice_set w.seats g.1 new; messages = w.messages ++ drop (length old.state.sends) new.state.sends; blocks = w.blocks ++ block g.1 g.0 (due_messages p g.1 g.0 old.got w.messages) ∷ [] }
 
 -- the world after a grant, if there is one
-abbrev pub granted_or_same : Parts → World → Option (ℕ × ℕ) → World
-granted_or_same p w None = w
-granted_or_same p w (Some g) = granted p w g
+abbrev pub world_after_pair : Parts → World → Option (ℕ × ℕ) → World
+world_after_pair p w None = w
+world_after_pair p w (Some g) = world_after_grant p w g
 
 -- one grant, while a federate stands below the end
-abbrev pub advanced : Parts → World → World
-advanced p w = granted_or_same p w (next_grant p w)
+abbrev pub next_world : Parts → World → World
+next_world p w = world_after_pair p w (next_grant p w)
 
 -- the world after so many grants
 abbrev pub after_grants : Parts → ℕ → World → World
 after_grants p zero w = w
-after_grants p (suc n) w = after_grants p n (advanced p w)
+after_grants p (suc n) w = after_grants p n (next_world p w)
 
 -- as many grants as there can be
-abbrev pub simulated : Parts → World
-simulated p = after_grants p (length p.federates * p.end) (started p)
+abbrev pub simulation : Parts → World
+simulation p = after_grants p (length p.federates * p.end) (world_at_start p)
 
 -- the closing variables of each federate
 abbrev pub closing_vars : World → List (List ℕ)
@@ -157,4 +157,4 @@ is_spent m = m.number == 16385
 
 -- the federate that takes number 16,385, the first to do so
 abbrev pub spender : Parts → Option ℕ
-spender p = option_map (λ (m : Message). m.sender) (find is_spent (simulated p).messages)
+spender p = option_map (λ (m : Message). m.sender) (find is_spent (simulation p).messages)

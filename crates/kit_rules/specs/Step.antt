@@ -139,8 +139,8 @@ abbrev pub scene_of : Parts → ℕ → ℕ → ℕ → Scene
 scene_of p federate now value = record { end = p.end; sender = federate; lookahead = effective_lookahead p federate; time = now; value = value }
 
 -- the rules of a trigger, at a time and with a value
-abbrev pub stepped : Parts → ℕ → Trigger → ℕ → ℕ → State → State
-stepped p federate on now value s = after_rules (scene_of p federate now value) on s (federate_at p federate).rules
+abbrev pub state_after : Parts → ℕ → Trigger → ℕ → ℕ → State → State
+state_after p federate on now value s = after_rules (scene_of p federate now value) on s (federate_at p federate).rules
 
 -- the variables in the order of the file, and 0 in the places that are left
 abbrev pub opening_vars : List Var → List ℕ

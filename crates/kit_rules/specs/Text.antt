@@ -8,7 +8,7 @@ use Rattle.kit_rules.specs.declared.table.Var.{Var}
 use Rattle.kit_rules.specs.declared.table.Federate.{Federate}
 use Rattle.kit_rules.specs.Parts.{Parts, federate_at, group_at}
 use Rattle.kit_rules.specs.Need.{needs_of}
-use Rattle.kit_rules.specs.Simulation.{lines_of, closing_vars, simulated}
+use Rattle.kit_rules.specs.Simulation.{lines_of, closing_vars, simulation}
 
 -- where a message comes from
 abbrev pub origin_text : Parts → Message → List ℕ
@@ -45,7 +45,7 @@ history_text p lines vars = flat_map (line_text p) lines ++ closings_text p.fede
 
 -- the text of the sequential simulation
 abbrev pub simulation_text : Parts → List ℕ
-simulation_text p = history_text p (lines_of (simulated p).blocks) (closing_vars (simulated p))
+simulation_text p = history_text p (lines_of (simulation p).blocks) (closing_vars (simulation p))
 
 -- how many buffers a federate needs
 abbrev pub need_line : Federate → ℕ → List ℕ

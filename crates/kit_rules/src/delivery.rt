@@ -1,7 +1,7 @@
 //! Who receives a message.
 
 ghost use Rattle.std.specs.Prelude.{◌≡◌, ◌<◌};
-ghost use Rattle.kit_rules.specs.Delivery.{has_bit, without, receivers_of, is_transported};
+ghost use Rattle.kit_rules.specs.Delivery.{has_bit, without_bit, receivers_of, is_transported};
 
 use crate::Federation;
 use kit_base::Message;
@@ -15,7 +15,7 @@ pub fn is_member(mask: u16, j: u8) -> bool
 }
 
 fn mask_without(mask: u16, j: u8) -> u16
-    ensures { result ≡ without mask j }
+    ensures { result ≡ without_bit mask j }
 {
     if j < 16 && is_member(mask, j) {
         mask - (1 << j)

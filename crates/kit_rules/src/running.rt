@@ -1,6 +1,6 @@
 ghost use Rattle.std.specs.Prelude.{◌≡◌, ◌<◌, ◌≤◌, ◌++◌, length, take, drop, OnOk, OnErr, All};
 ghost use Rattle.kit_rules.specs.Federation.{IsAction};
-ghost use Rattle.kit_rules.specs.Step.{after_actions, after_rule, after_rules, same_trigger, CanRun, stepped};
+ghost use Rattle.kit_rules.specs.Step.{after_actions, after_rule, after_rules, same_trigger, CanRun, state_after};
 
 use crate::act::{act, are_met};
 use crate::{Action, ApplyEnd, FedState, Federation, Rule, Scene, Trigger};
@@ -90,13 +90,13 @@ pub fn apply(
     requires federate { federate < length federation.now.federates }
     requires time { now ≤ federation.now.end }
 
-    ensures state { OnOk result (state.new ≡ stepped federation.now federate trigger now value state.old) }
+    ensures state { OnOk result (state.new ≡ state_after federation.now federate trigger now value state.old) }
     ensures sends { OnOk result (sends.new.items ≡ sends.old.items ++ drop (length state.old.sends) state.new.sends) }
     ensures unchanged { OnErr result ((state.new ≡ state.old) × (sends.new.items ≡ sends.old.items)) }
     ensures kept { take (length state.old.sends) state.new.sends ≡ state.old.sends }
 
     // Number 16,385 is what is refused, and nothing else is but for memory.
-    ensures spent { result ≡ Err ApplyEnd.SendsSpent → 16385 < (stepped federation.now federate trigger now value state.old).next }
+    ensures spent { result ≡ Err ApplyEnd.SendsSpent → 16385 < (state_after federation.now federate trigger now value state.old).next }
     ensures room { OnOk result (state.new.next ≤ 16385) }
 {
     let rules = federation.federate(federate);

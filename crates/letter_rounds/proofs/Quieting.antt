@@ -5,8 +5,8 @@ use mathlib.Core.Option.{some-injective}
 use native.Mathlib.Decide.{ℕ_discrete}
 use lib.ListN.{get_elem?}
 use Rattle.kit_ground.specs.declared.place.Place.{Place}
-use Rattle.kit_ground.specs.Coming.{Came}
-use Rattle.kit_ground.specs.Floors.{Floor, Ruled, place_of}
+use Rattle.kit_ground.specs.Coming.{AreSteps}
+use Rattle.kit_ground.specs.Floors.{Floor, RulesHold, place_of}
 use Rattle.kit_ground.specs.Steps.{buffer_of}
 use Rattle.kit_ground.proofs.PlainSteps.{here, number, federates, buffers}
 use Rattle.kit_courier.specs.declared.view.CourierView.{CourierView}
@@ -21,7 +21,7 @@ F = Floor (Unit {0}) CourierView
 pub quiet_seated : (f h : F) (k : ℕ) → IsQuiet f → h ≡ record f { seated = k } → IsQuiet h
 quiet_seated f h k q is = subst IsQuiet (sym is) (record { federates = q.federates; buffers = q.buffers; owed = q.owed })
 
-module _ (f : F) (r : Ruled courier_rule f) (q : IsQuiet f) where
+module _ (f : F) (r : RulesHold courier_rule f) (q : IsQuiet f) where
   pub place_number : (place_of courier_first f).own.number ≡ f.seated
   place_number = number courier_rule courier_first f r
 
@@ -34,7 +34,7 @@ module _ (f : F) (r : Ruled courier_rule f) (q : IsQuiet f) where
   pub place_owed : (k : ℕ) → (buffer_of (place_of courier_first f).own.stock k).to_post ≡ 0
   place_owed k = q.owed f.seated (place_of courier_first f) (here courier_rule courier_first f r) k
 
-  pub quiet_after : (h : F) → Ruled courier_rule h → Came courier_first f h → OwesTheSame (place_of courier_first f) (place_of courier_first h) → IsQuiet h
+  pub quiet_after : (h : F) → RulesHold courier_rule h → AreSteps courier_first f h → OwesTheSame (place_of courier_first f) (place_of courier_first h) → IsQuiet h
   quiet_after h s came owes = record {
     federates = came.many ∙ q.federates;
     buffers = came.buffers ∙ q.buffers;

@@ -3,7 +3,7 @@ use Rattle.std.specs.Int.{bit_at}
 use Rattle.kit_ground.specs.declared.address.Address.TheVariants.{Count, Part}
 use Rattle.kit_ground.specs.declared.place.Deed.TheVariants.{ReadPart, Released}
 use Rattle.kit_ground.specs.declared.place.Place.{Place}
-use Rattle.kit_ground.specs.Rules.{Keeps, Told}
+use Rattle.kit_ground.specs.Rules.{Keeps, WasFound}
 use Rattle.kit_ground.proofs.PlaceSteps.{stage}
 use Rattle.kit_courier.specs.declared.view.CourierView.{CourierView}
 use Rattle.kit_courier.specs.declared.view.Letter.{Letter}
@@ -204,5 +204,5 @@ returns-clause-letter g c =
     let at3 = stage delivered (ReadPart i k 1 body) (with_head p i w mail low head body) _ _ c.read_part-body.ensures.place at2 in
     let at4 = stage delivered (Released i k) (with_body p i w mail low head body) _ _ c.release.ensures.place at3 in
     let letter : Letter = record { head = head; body = body } in
-    let told = subst (λ (q : P). Told courier_rule q (Part i k 1) body) at2 c.read_part-body.ensures.told in
+    let told = subst (λ (q : P). WasFound courier_rule q (Part i k 1) body) at2 c.read_part-body.ensures.told in
     subst (λ (q : P). IsReceived p i w letter q) (sym at4) (arrives p i w mail low head body wide c.lowest-low.ensures.posted (in_mail p i c.requires.from w c.requires.word t) c.lowest-low.ensures.least told)

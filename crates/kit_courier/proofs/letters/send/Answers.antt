@@ -5,7 +5,7 @@ use Rattle.kit_ground.specs.declared.address.Address.TheVariants.{Count, Part}
 use Rattle.kit_ground.specs.declared.place.Deed.TheVariants.{SawFree, Wrote, Charged, PostedTo}
 use Rattle.kit_ground.specs.declared.place.Place.{Place}
 use Rattle.kit_ground.specs.Rules.{Keeps}
-use Rattle.kit_ground.specs.Steps.{IsChargeable, IsMask, acted, buffer_of}
+use Rattle.kit_ground.specs.Steps.{IsChargeable, IsMask, place_after, buffer_of}
 use Rattle.kit_ground.proofs.WorldFacts.{few_federates}
 use Rattle.kit_ground.proofs.PlaceSteps.{stage}
 use Rattle.kit_courier.specs.declared.view.CourierView.{CourierView}
@@ -31,7 +31,7 @@ write_part-requires-clause-free g c =
     let l = c.args.letter in
     let j : ℕ = c.args.to in
     let inside = in_stock p k c.requires.buffer c.look_free.ensures.told.1 in
-    let at1 = c.look_free.ensures.place ∙ ap (λ x. acted delivered (SawFree k x) p) c.if-not-look_free.false in
+    let at1 = c.look_free.ensures.place ∙ ap (λ x. place_after delivered (SawFree k x) p) c.if-not-look_free.false in
     ap (λ (q : P). (buffer_of q.own.stock k).free) at1 ∙ free_seen p k l j inside
 
 pub write_part-requires-clause-rule : goal.write_part-requires-clause-rule
@@ -41,7 +41,7 @@ write_part-requires-clause-rule g c =
     let l = c.args.letter in
     let j : ℕ = c.args.to in
     let inside = in_stock p k c.requires.buffer c.look_free.ensures.told.1 in
-    let at1 = c.look_free.ensures.place ∙ ap (λ x. acted delivered (SawFree k x) p) c.if-not-look_free.false in
+    let at1 = c.look_free.ensures.place ∙ ap (λ x. place_after delivered (SawFree k x) p) c.if-not-look_free.false in
     subst (λ (q : P). Keeps courier_rule delivered q (Part q.own.number k 0) (λ _. Wrote k 0 l.head)) (sym at1) (writes (seen_free p k l j) k 0 l.head c.requires.buffer (free_seen p k l j inside))
 
 pub write_part-requires-2-clause-free : goal.write_part-requires-2-clause-free
@@ -51,7 +51,7 @@ write_part-requires-2-clause-free g c =
     let l = c.args.letter in
     let j : ℕ = c.args.to in
     let inside = in_stock p k c.requires.buffer c.look_free.ensures.told.1 in
-    let at1 = c.look_free.ensures.place ∙ ap (λ x. acted delivered (SawFree k x) p) c.if-not-look_free.false in
+    let at1 = c.look_free.ensures.place ∙ ap (λ x. place_after delivered (SawFree k x) p) c.if-not-look_free.false in
     let at2 = stage delivered (Wrote k 0 l.head) (seen_free p k l j) _ _ c.write_part.ensures.place at1 in
     ap (λ (q : P). (buffer_of q.own.stock k).free) at2 ∙ free_head p k l j inside
 
@@ -62,7 +62,7 @@ write_part-requires-2-clause-rule g c =
     let l = c.args.letter in
     let j : ℕ = c.args.to in
     let inside = in_stock p k c.requires.buffer c.look_free.ensures.told.1 in
-    let at1 = c.look_free.ensures.place ∙ ap (λ x. acted delivered (SawFree k x) p) c.if-not-look_free.false in
+    let at1 = c.look_free.ensures.place ∙ ap (λ x. place_after delivered (SawFree k x) p) c.if-not-look_free.false in
     let at2 = stage delivered (Wrote k 0 l.head) (seen_free p k l j) _ _ c.write_part.ensures.place at1 in
     subst (λ (q : P). Keeps courier_rule delivered q (Part q.own.number k 1) (λ _. Wrote k 1 l.body)) (sym at2) (writes (with_head p k l j) k 1 l.body c.requires.buffer (free_head p k l j inside))
 
@@ -79,7 +79,7 @@ charge-requires-clause-ready g c =
     let l = c.args.letter in
     let j : ℕ = c.args.to in
     let inside = in_stock p k c.requires.buffer c.look_free.ensures.told.1 in
-    let at1 = c.look_free.ensures.place ∙ ap (λ x. acted delivered (SawFree k x) p) c.if-not-look_free.false in
+    let at1 = c.look_free.ensures.place ∙ ap (λ x. place_after delivered (SawFree k x) p) c.if-not-look_free.false in
     let at2 = stage delivered (Wrote k 0 l.head) (seen_free p k l j) _ _ c.write_part.ensures.place at1 in
     let at3 = stage delivered (Wrote k 1 l.body) (with_head p k l j) _ _ c.write_part-2.ensures.place at2 in
     subst (λ (q : P). IsChargeable q.own k) (sym at3) (chargeable p k l j inside)
@@ -90,7 +90,7 @@ charge-requires-clause-mask g c =
     let k : ℕ = c.args.buffer in
     let l = c.args.letter in
     let j : ℕ = c.args.to in
-    let at1 = c.look_free.ensures.place ∙ ap (λ x. acted delivered (SawFree k x) p) c.if-not-look_free.false in
+    let at1 = c.look_free.ensures.place ∙ ap (λ x. place_after delivered (SawFree k x) p) c.if-not-look_free.false in
     let at2 = stage delivered (Wrote k 0 l.head) (seen_free p k l j) _ _ c.write_part.ensures.place at1 in
     let at3 = stage delivered (Wrote k 1 l.body) (with_head p k l j) _ _ c.write_part-2.ensures.place at2 in
     subst (λ (x : P × ℕ). IsMask x.0.own x.1) (λ i. (sym at3 i, sym c.only.ensures i)) (only_mask p.own j c.requires.to c.requires.other)
@@ -101,7 +101,7 @@ charge-requires-clause-rule g c =
     let k : ℕ = c.args.buffer in
     let l = c.args.letter in
     let j : ℕ = c.args.to in
-    let at1 = c.look_free.ensures.place ∙ ap (λ x. acted delivered (SawFree k x) p) c.if-not-look_free.false in
+    let at1 = c.look_free.ensures.place ∙ ap (λ x. place_after delivered (SawFree k x) p) c.if-not-look_free.false in
     let at2 = stage delivered (Wrote k 0 l.head) (seen_free p k l j) _ _ c.write_part.ensures.place at1 in
     let at3 = stage delivered (Wrote k 1 l.body) (with_head p k l j) _ _ c.write_part-2.ensures.place at2 in
     subst (λ (x : P × ℕ). Keeps courier_rule delivered x.0 (Count x.0.own.number k) (λ _. Charged k x.1)) (λ i. (sym at3 i, sym c.only.ensures i)) (charges (with_body p k l j) k (2 ^ j) c.requires.buffer)
@@ -113,10 +113,10 @@ post-requires-clause-owed g c =
     let l = c.args.letter in
     let j : ℕ = c.args.to in
     let inside = in_stock p k c.requires.buffer c.look_free.ensures.told.1 in
-    let at1 = c.look_free.ensures.place ∙ ap (λ x. acted delivered (SawFree k x) p) c.if-not-look_free.false in
+    let at1 = c.look_free.ensures.place ∙ ap (λ x. place_after delivered (SawFree k x) p) c.if-not-look_free.false in
     let at2 = stage delivered (Wrote k 0 l.head) (seen_free p k l j) _ _ c.write_part.ensures.place at1 in
     let at3 = stage delivered (Wrote k 1 l.body) (with_head p k l j) _ _ c.write_part-2.ensures.place at2 in
-    let at4 = stage delivered (Charged k (2 ^ j)) (with_body p k l j) _ _ (c.charge.ensures.place ∙ ap (λ x. acted delivered (Charged k x) (g.G.Ground.place c.write_part-2.new.self)) c.only.ensures) at3 in
+    let at4 = stage delivered (Charged k (2 ^ j)) (with_body p k l j) _ _ (c.charge.ensures.place ∙ ap (λ x. place_after delivered (Charged k x) (g.G.Ground.place c.write_part-2.new.self)) c.only.ensures) at3 in
     ap (λ (q : P). bit_at (buffer_of q.own.stock k).to_post j) at4 ∙ (ap (λ (mask : ℕ). bit_at mask j) (owed p k l j inside) ∙ bit_at-pow_same j)
 
 pub post-requires-clause-rule : goal.post-requires-clause-rule
@@ -131,7 +131,7 @@ pub returns-then-not-look_free-clause-free : goal.returns-then-not-look_free-cla
 returns-then-not-look_free-clause-free g c =
     let p : P = g.G.Ground.place c.args.seat.now in
     let k : ℕ = c.args.buffer in
-    let at = c.look_free.ensures.place ∙ ap (λ x. acted delivered (SawFree k x) p) c.if-not-look_free.true in
+    let at = c.look_free.ensures.place ∙ ap (λ x. place_after delivered (SawFree k x) p) c.if-not-look_free.true in
     subst (HasSeen p k false) (sym at) (sees p k false (in_counts p k c.requires.buffer c.look_free.ensures.told.1))
 
 pub returns-clause-free : goal.returns-clause-free
@@ -140,10 +140,10 @@ returns-clause-free g c =
     let k : ℕ = c.args.buffer in
     let l = c.args.letter in
     let j : ℕ = c.args.to in
-    let at1 = c.look_free.ensures.place ∙ ap (λ x. acted delivered (SawFree k x) p) c.if-not-look_free.false in
+    let at1 = c.look_free.ensures.place ∙ ap (λ x. place_after delivered (SawFree k x) p) c.if-not-look_free.false in
     let at2 = stage delivered (Wrote k 0 l.head) (seen_free p k l j) _ _ c.write_part.ensures.place at1 in
     let at3 = stage delivered (Wrote k 1 l.body) (with_head p k l j) _ _ c.write_part-2.ensures.place at2 in
-    let at4 = stage delivered (Charged k (2 ^ j)) (with_body p k l j) _ _ (c.charge.ensures.place ∙ ap (λ x. acted delivered (Charged k x) (g.G.Ground.place c.write_part-2.new.self)) c.only.ensures) at3 in
+    let at4 = stage delivered (Charged k (2 ^ j)) (with_body p k l j) _ _ (c.charge.ensures.place ∙ ap (λ x. place_after delivered (Charged k x) (g.G.Ground.place c.write_part-2.new.self)) c.only.ensures) at3 in
     let at5 = stage delivered (PostedTo k j) (after_charge p k l j) _ _ c.post.ensures.place at4 in
     subst (HasSeen p k true) (sym at5) (seen_free_since p k l j (in_counts p k c.requires.buffer c.look_free.ensures.told.1))
 
@@ -154,10 +154,10 @@ returns-clause-sent g c =
     let l = c.args.letter in
     let j : ℕ = c.args.to in
     let inside = in_stock p k c.requires.buffer c.look_free.ensures.told.1 in
-    let at1 = c.look_free.ensures.place ∙ ap (λ x. acted delivered (SawFree k x) p) c.if-not-look_free.false in
+    let at1 = c.look_free.ensures.place ∙ ap (λ x. place_after delivered (SawFree k x) p) c.if-not-look_free.false in
     let at2 = stage delivered (Wrote k 0 l.head) (seen_free p k l j) _ _ c.write_part.ensures.place at1 in
     let at3 = stage delivered (Wrote k 1 l.body) (with_head p k l j) _ _ c.write_part-2.ensures.place at2 in
-    let at4 = stage delivered (Charged k (2 ^ j)) (with_body p k l j) _ _ (c.charge.ensures.place ∙ ap (λ x. acted delivered (Charged k x) (g.G.Ground.place c.write_part-2.new.self)) c.only.ensures) at3 in
+    let at4 = stage delivered (Charged k (2 ^ j)) (with_body p k l j) _ _ (c.charge.ensures.place ∙ ap (λ x. place_after delivered (Charged k x) (g.G.Ground.place c.write_part-2.new.self)) c.only.ensures) at3 in
     let at5 = stage delivered (PostedTo k j) (after_charge p k l j) _ _ c.post.ensures.place at4 in
     ap (λ (q : P). q.client.sent) at5 ∙ sent_whole p k l j inside
 
@@ -168,10 +168,10 @@ returns-clause-owed g c =
     let l = c.args.letter in
     let j : ℕ = c.args.to in
     let inside = in_stock p k c.requires.buffer c.look_free.ensures.told.1 in
-    let at1 = c.look_free.ensures.place ∙ ap (λ x. acted delivered (SawFree k x) p) c.if-not-look_free.false in
+    let at1 = c.look_free.ensures.place ∙ ap (λ x. place_after delivered (SawFree k x) p) c.if-not-look_free.false in
     let at2 = stage delivered (Wrote k 0 l.head) (seen_free p k l j) _ _ c.write_part.ensures.place at1 in
     let at3 = stage delivered (Wrote k 1 l.body) (with_head p k l j) _ _ c.write_part-2.ensures.place at2 in
-    let at4 = stage delivered (Charged k (2 ^ j)) (with_body p k l j) _ _ (c.charge.ensures.place ∙ ap (λ x. acted delivered (Charged k x) (g.G.Ground.place c.write_part-2.new.self)) c.only.ensures) at3 in
+    let at4 = stage delivered (Charged k (2 ^ j)) (with_body p k l j) _ _ (c.charge.ensures.place ∙ ap (λ x. place_after delivered (Charged k x) (g.G.Ground.place c.write_part-2.new.self)) c.only.ensures) at3 in
     let at5 = stage delivered (PostedTo k j) (after_charge p k l j) _ _ c.post.ensures.place at4 in
     subst (λ (q : P). OwesTheSame p q) (sym at5) (owed_after_post p k l j inside c.requires.posted)
 
@@ -182,9 +182,9 @@ returns-clause-to g c =
     let l = c.args.letter in
     let j : ℕ = c.args.to in
     let inside = in_stock p k c.requires.buffer c.look_free.ensures.told.1 in
-    let at1 = c.look_free.ensures.place ∙ ap (λ x. acted delivered (SawFree k x) p) c.if-not-look_free.false in
+    let at1 = c.look_free.ensures.place ∙ ap (λ x. place_after delivered (SawFree k x) p) c.if-not-look_free.false in
     let at2 = stage delivered (Wrote k 0 l.head) (seen_free p k l j) _ _ c.write_part.ensures.place at1 in
     let at3 = stage delivered (Wrote k 1 l.body) (with_head p k l j) _ _ c.write_part-2.ensures.place at2 in
-    let at4 = stage delivered (Charged k (2 ^ j)) (with_body p k l j) _ _ (c.charge.ensures.place ∙ ap (λ x. acted delivered (Charged k x) (g.G.Ground.place c.write_part-2.new.self)) c.only.ensures) at3 in
+    let at4 = stage delivered (Charged k (2 ^ j)) (with_body p k l j) _ _ (c.charge.ensures.place ∙ ap (λ x. place_after delivered (Charged k x) (g.G.Ground.place c.write_part-2.new.self)) c.only.ensures) at3 in
     let at5 = stage delivered (PostedTo k j) (after_charge p k l j) _ _ c.post.ensures.place at4 in
     λ _. record { before = after_charge p k l j; owed = owed p k l j inside; step = at5 }

@@ -1,6 +1,6 @@
 use Rattle.std.proofs.Common.{◌∙◌, ◌≤◌, List, ap, sym, subst, length}
 use Rattle.kit_oracle.specs.declared.desk.Desk.{Desk}
-use Rattle.kit_rules.specs.Simulation.{started}
+use Rattle.kit_rules.specs.Simulation.{world_at_start}
 use Rattle.kit_oracle.specs.Desks.{all_posted}
 use Rattle.kit_oracle.proofs.Progress.{few_opened, start_shown}
 use Rattle.kit_oracle.proofs.opening.open_all.Goals as goal
@@ -12,4 +12,4 @@ pub returns-clause-desks : goal.returns-clause-desks
 returns-clause-desks c =
     let p = c.args.federation.now in
     c.in_ok-post_all.ensures ∙ ap (λ ms. all_posted p ms c.in_ok-desks.desks.items) (c.deref.ensures.value ∙ c.in_ok-desks.ensures.made)
-    ∙ ap (all_posted p (started p).messages) c.in_ok-desks.ensures.desks ∙ start_shown p c.count.ensures.sound
+    ∙ ap (all_posted p (world_at_start p).messages) c.in_ok-desks.ensures.desks ∙ start_shown p c.count.ensures.sound

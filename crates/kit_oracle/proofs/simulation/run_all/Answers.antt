@@ -5,7 +5,7 @@ use Rattle.kit_base.specs.declared.message.Message.{Message}
 use Rattle.kit_base.specs.declared.history.Line.{Line}
 use Rattle.kit_base.specs.declared.history.Line.TheVariants as line
 use Rattle.kit_laws.proofs.Sanity.{started_sane}
-use Rattle.kit_rules.specs.Simulation.{World, started, next_grant, least, after_grants, simulated, spender, is_spent, lines_of}
+use Rattle.kit_rules.specs.Simulation.{World, world_at_start, next_grant, least_pair, after_grants, simulation, spender, is_spent, lines_of}
 use Rattle.kit_oracle.specs.declared.desk.Desk.{Desk}
 use Rattle.kit_oracle.specs.declared.end.OracleEnd.{OracleEnd}
 use Rattle.kit_oracle.specs.Ends.{IfSpent}
@@ -32,13 +32,13 @@ next_of-requires g c =
       few_desks c.args.federation.now c.loop-turn._turn c.loop-turn.desks.items (record { desks = i.desks; none = i.none; sane = i.sane }),
     ))
 
-nobody_next : (g : Over) (c : In-None g) → next_grant c.args.federation.now (after_grants c.args.federation.now c.loop-turn._turn (started c.args.federation.now)) ≡ None
+nobody_next : (g : Over) (c : In-None g) → next_grant c.args.federation.now (after_grants c.args.federation.now c.loop-turn._turn (world_at_start c.args.federation.now)) ≡ None
 nobody_next g c =
     let i = c.loop-turn.invariant in
     next_found c.args.federation.now c.loop-turn._turn c.loop-turn.desks.items c.end-end.result None
-    (record { desks = i.desks; none = i.none; sane = i.sane }) c.end-end.ensures.value (c.in-None.ensures ∙ ap (λ ds. least None (waiting_at c.end-end.result 0 ds)) c.deref.ensures.value)
+    (record { desks = i.desks; none = i.none; sane = i.sane }) c.end-end.ensures.value (c.in-None.ensures ∙ ap (λ ds. least_pair None (waiting_at c.end-end.result 0 ds)) c.deref.ensures.value)
 
-none_next : (g : Over) (c : In-None g) → after_grants c.args.federation.now c.loop-turn._turn (started c.args.federation.now) ≡ simulated c.args.federation.now
+none_next : (g : Over) (c : In-None g) → after_grants c.args.federation.now c.loop-turn._turn (world_at_start c.args.federation.now) ≡ simulation c.args.federation.now
 none_next g c =
     let within = turn_within c.loop-turn._turn c.count.result c.end-end.result (length c.args.federation.now.federates) c.args.federation.now.end c.loop-turn-test.true c.count.ensures.value c.end-end.ensures.value in
     over_here c.args.federation.now c.loop-turn._turn (omega arith) (nobody_next g c)
@@ -46,10 +46,10 @@ none_next g c =
 shows : (g : Over) (c : In-Some g) → Shows c.args.federation.now c.loop-turn._turn c.loop-turn.desks.items
 shows g c = let i = c.loop-turn.invariant in record { desks = i.desks; none = i.none; sane = i.sane }
 
-some_next : (g : Over) (c : In-Some g) → next_grant c.args.federation.now (after_grants c.args.federation.now c.loop-turn._turn (started c.args.federation.now)) ≡ Some c.in-Some.pair
+some_next : (g : Over) (c : In-Some g) → next_grant c.args.federation.now (after_grants c.args.federation.now c.loop-turn._turn (world_at_start c.args.federation.now)) ≡ Some c.in-Some.pair
 some_next g c =
     next_found c.args.federation.now c.loop-turn._turn c.loop-turn.desks.items c.end-end.result (Some c.in-Some.pair) (shows g c) c.end-end.ensures.value
-    (c.in-Some.ensures ∙ ap (λ ds. least None (waiting_at c.end-end.result 0 ds)) c.deref.ensures.value)
+    (c.in-Some.ensures ∙ ap (λ ds. least_pair None (waiting_at c.end-end.result 0 ds)) c.deref.ensures.value)
 
 some_fits : (g : Over) (c : In-Some g) → (c.in-Some.pair.1 < length c.args.federation.now.federates) × (c.in-Some.pair.0 ≤ c.args.federation.now.end)
 some_fits g c = next_fits c.args.federation.now c.loop-turn._turn c.loop-turn.desks.items c.in-Some.pair (shows g c) (some_next g c)
@@ -68,7 +68,7 @@ returns-in-None-clause-shows g c =
     let most = length p.federates * p.end in
     let within = turn_within n c.count.result c.end-end.result (length p.federates) p.end c.loop-turn-test.true c.count.ensures.value c.end-end.ensures.value in
     let L : World → Type 0 = λ w. g.O.Observer.shows p n (lines_of w.blocks) c.loop-turn.observer in
-    still_shows g.O.Observer.shows g.met.O.Observer.over p n (most - n) most (lines_of (simulated p).blocks) c.loop-turn.observer (omega arith) (nobody_next g at) (subst L (none_next g at) c.loop-turn.invariant.shows)
+    still_shows g.O.Observer.shows g.met.O.Observer.over p n (most - n) most (lines_of (simulation p).blocks) c.loop-turn.observer (omega arith) (nobody_next g at) (subst L (none_next g at) c.loop-turn.invariant.shows)
 
 pub returns-in-None-clause-none : goal.returns-in-None-clause-none
 returns-in-None-clause-none g c =
@@ -111,7 +111,7 @@ returns-in_err-grant-in-Some-clause-spent g c =
 -- the lines that the observer shows when it is told of the grant
 abbrev lines_before : (g : Over) (c : In-Some g) → List Line
 lines_before g c =
-    lines_of (after_grants c.args.federation.now c.loop-turn._turn (started c.args.federation.now)).blocks
+    lines_of (after_grants c.args.federation.now c.loop-turn._turn (world_at_start c.args.federation.now)).blocks
     ++ map (line.Deliver c.in-Some.pair.0 c.in-Some.pair.1) (front c.in-Some.pair.0 (desk_at c.loop-turn.desks.items c.in-Some.pair.1).queue)
 
 pub grant-requires-in-Some : goal.grant-requires-in-Some
@@ -121,7 +121,7 @@ grant-requires-in-Some g c =
     let n = c.loop-turn._turn in
     let P : List Message → Type 0 = λ ms. IsGrant p n c.in-Some.pair ms in
     let told = told_of p n c.loop-turn.desks.items c.grant.new.made.items c.in-Some.pair c.count.ensures.sound (shows g at) (some_next g at) c.in_ok-grant-in-Some.ensures.made c.in_ok-grant-in-Some.ensures.room in
-    (n, lines_before g at, subst P (sym c.deref-in-Some.ensures.value) told, c.in_ok-grant-in-Some.ensures.lines p n (lines_of (after_grants p n (started p)).blocks) c.loop-turn.invariant.shows)
+    (n, lines_before g at, subst P (sym c.deref-in-Some.ensures.value) told, c.in_ok-grant-in-Some.ensures.lines p n (lines_of (after_grants p n (world_at_start p)).blocks) c.loop-turn.invariant.shows)
 
 pub loop-turn-preserved : goal.loop-turn-preserved
 loop-turn-preserved g c =
@@ -132,5 +132,5 @@ loop-turn-preserved g c =
     let P : List Message → Type 0 = λ ms. IsGrant p n c.in-Some.pair ms in
     let L : List Line → Type 0 = λ ls. g.O.Observer.shows p (n + 1) ls c.grant-in-Some.new.self in
     let told = told_of p n c.loop-turn.desks.items c.grant.new.made.items c.in-Some.pair c.count.ensures.sound (shows g at) (some_next g at) c.in_ok-grant-in-Some.ensures.made c.in_ok-grant-in-Some.ensures.room in
-    let lines = c.in_ok-grant-in-Some-2.ensures n (lines_before g at) (subst P (sym c.deref-in-Some.ensures.value) told) (c.in_ok-grant-in-Some.ensures.lines p n (lines_of (after_grants p n (started p)).blocks) c.loop-turn.invariant.shows) in
+    let lines = c.in_ok-grant-in-Some-2.ensures n (lines_before g at) (subst P (sym c.deref-in-Some.ensures.value) told) (c.in_ok-grant-in-Some.ensures.lines p n (lines_of (after_grants p n (world_at_start p)).blocks) c.loop-turn.invariant.shows) in
     record { desks = s.desks; made = c.clear.ensures.items; shows = subst L (lines_next p n c.loop-turn.desks.items c.in-Some.pair (shows g at) (some_next g at)) lines; none = s.none; sane = s.sane }

@@ -3,7 +3,7 @@ use Rattle.std.specs.List.{All}
 use Rattle.std.proofs.lemmas.List.{length-map}
 use Rattle.kit_base.specs.declared.history.Line.{Line}
 use Rattle.kit_rules.specs.Fits.{LineFits}
-use Rattle.kit_rules.specs.Simulation.{Seat, simulated, lines_of}
+use Rattle.kit_rules.specs.Simulation.{Seat, simulation, lines_of}
 use Rattle.kit_laws.proofs.Fitting.{simulated_fits, simulated_count}
 use Rattle.kit_oracle.specs.declared.desk.Desk.{Desk}
 use Rattle.kit_oracle.proofs.Progress.{vars_shown}
@@ -11,17 +11,17 @@ use Rattle.kit_oracle.proofs.simulation.simulate.Goals as goal
 
 pub returns-clause-vars : goal.returns-clause-vars
 returns-clause-vars c =
-    c.in_ok-vars.ensures ∙ ap (λ (ds : List Desk). map (λ (d : Desk). d.state.vars) ds) (c.deref.ensures.value ∙ c.in_ok-run_all.ensures.desks) ∙ vars_shown c.args.federation.now (simulated c.args.federation.now)
+    c.in_ok-vars.ensures ∙ ap (λ (ds : List Desk). map (λ (d : Desk). d.state.vars) ds) (c.deref.ensures.value ∙ c.in_ok-run_all.ensures.desks) ∙ vars_shown c.args.federation.now (simulation c.args.federation.now)
 
 pub returns-clause-fits : goal.returns-clause-fits
 returns-clause-fits c =
     let p = c.args.federation.now in
     let P : List Line → Type 0 = λ ls. All (LineFits p) ls in
-    let e : c.from_vec.result ≡ lines_of (simulated p).blocks = c.from_vec.ensures ∙ c.in_ok-run_all.ensures.shows in
+    let e : c.from_vec.result ≡ lines_of (simulation p).blocks = c.from_vec.ensures ∙ c.in_ok-run_all.ensures.shows in
     subst P (sym e) (simulated_fits p c.count.ensures.sound)
 
 pub returns-clause-each : goal.returns-clause-each
 returns-clause-each c =
     let p = c.args.federation.now in
-    ap length (c.in_ok-vars.ensures ∙ ap (λ (ds : List Desk). map (λ (d : Desk). d.state.vars) ds) (c.deref.ensures.value ∙ c.in_ok-run_all.ensures.desks) ∙ vars_shown p (simulated p))
-    ∙ length-map (simulated p).seats (λ (s : Seat). s.state.vars) ∙ simulated_count p c.count.ensures.sound
+    ap length (c.in_ok-vars.ensures ∙ ap (λ (ds : List Desk). map (λ (d : Desk). d.state.vars) ds) (c.deref.ensures.value ∙ c.in_ok-run_all.ensures.desks) ∙ vars_shown p (simulation p))
+    ∙ length-map (simulation p).seats (λ (s : Seat). s.state.vars) ∙ simulated_count p c.count.ensures.sound

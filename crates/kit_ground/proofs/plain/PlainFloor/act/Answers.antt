@@ -1,19 +1,19 @@
 use Rattle.std.proofs.Common.{sym, ap, ◌∙◌, subst, length}
-use Rattle.kit_ground.specs.Floors.{Ruled, stepped}
-use Rattle.kit_ground.specs.Steps.{acted}
+use Rattle.kit_ground.specs.Floors.{RulesHold, floor_after}
+use Rattle.kit_ground.specs.Steps.{place_after}
 use Rattle.kit_ground.proofs.Changing.{length-changed}
 use Rattle.kit_ground.proofs.plain.PlainFloor.act.Goals as goal
 
 pub invariant_of-self : goal.invariant_of-self
 invariant_of-self g c =
     let rule = g.P.Protocol.rule in
-    let made = acted g.E.Event.next c.args.deed in
+    let made = place_after g.E.Event.next c.args.deed in
     let self = c.self.inside in
-    let kept = subst (λ f. Ruled rule (stepped c.args.at c.args.word made f)) (sym c.self.view_is) c.requires.kept in (
-      subst (Ruled rule) (λ i. record {
+    let kept = subst (λ f. RulesHold rule (floor_after c.args.at c.args.word made f)) (sym c.self.view_is) c.requires.kept in (
+      subst (RulesHold rule) (λ i. record {
         opening = self.opening.value;
         buffers = self.buffers;
-        words = (stepped c.args.at c.args.word made (record { opening = self.opening.value; buffers = self.buffers; words = self.words.items; places = self.places.value; seated = self.seated; steps = self.steps.value })).words;
+        words = (floor_after c.args.at c.args.word made (record { opening = self.opening.value; buffers = self.buffers; words = self.words.items; places = self.places.value; seated = self.seated; steps = self.steps.value })).words;
         places = sym c.noted.ensures i;
         seated = self.seated;
         steps = sym c.counted.ensures i;

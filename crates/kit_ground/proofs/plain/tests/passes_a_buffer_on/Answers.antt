@@ -2,11 +2,11 @@ use Rattle.std.proofs.Common.{rules, ◌≡◌, ℕ, ◌<◌, sym, ap, ◌∙◌
 use Rattle.std.specs.Prelude.{slice_index, bit_or}
 use Rattle.std.specs.Int.{bit_at}
 use Rattle.kit_ground.specs.declared.place.Place.{Place}
-use Rattle.kit_ground.specs.Coming.{Came, came_on}
-use Rattle.kit_ground.specs.Floors.{Floor, place_of, opened}
+use Rattle.kit_ground.specs.Coming.{AreSteps, came_on}
+use Rattle.kit_ground.specs.Floors.{Floor, place_of, new_floor}
 use Rattle.kit_ground.specs.declared.place.Deed.TheVariants.{Collected}
 use Rattle.kit_ground.specs.Rules.{own_at_first}
-use Rattle.kit_ground.specs.Steps.{acted, buffer_of, mail_mask}
+use Rattle.kit_ground.specs.Steps.{place_after, buffer_of, mail_mask}
 use Rattle.kit_ground.proofs.MailWords.{some_words}
 use Rattle.kit_ground.proofs.PlainSeats.{place_else}
 use Rattle.kit_ground.specs.contracts.bare.BareProtocol.TheImpl.{first-value}
@@ -22,11 +22,11 @@ abbrev P : Type 0
 P = Place (Unit {0})
 
 -- the place of the second federate after six steps of the first
-second : (f a b d e h l : F) → f ≡ opened first tt 2 1 → Came first f a → Came first a b → Came first b d → Came first d e → Came first e h → Came first h l
+second : (f a b d e h l : F) → f ≡ new_floor first tt 2 1 → AreSteps first f a → AreSteps first a b → AreSteps first b d → AreSteps first d e → AreSteps first e h → AreSteps first h l
     → place_of first (record l { seated = 1 }) ≡ record { own = own_at_first 2 1 1; client = tt }
 second f a b d e h l is fa ab bd de eh hl =
     let on = came_on first in
-    let all : Came first f l = on f h l (on f e h (on f d e (on f b d (on f a b fa ab) bd) de) eh) hl in
+    let all : AreSteps first f l = on f h l (on f e h (on f d e (on f b d (on f a b fa ab) bd) de) eh) hl in
     let zero : f.seated ≡ 0 = ap (λ (x : F). x.seated) is in
     place_else first f l all 1 (λ one. omega (arith, one, zero)) ∙ ap (λ (x : F). place_of first (record x { seated = 1 })) is
 
@@ -85,11 +85,11 @@ release-requires-clause-buffer g c =
     let n = (sizes _ is).2 in let a = ap (λ (x : P). x.own.buffers) c.collect-mail.ensures.place in let b = ap (λ (x : P). x.own.buffers) c.collect-rest.ensures.place in let d = ap (λ (x : P). x.own.buffers) c.read_part.ensures.place in omega (arith, n, a, b, d)
 
 -- after two collects, of which the first gave the bit of the buffer 0
-held : (p q r : P) (mail rest : ℕ) → p ≡ record { own = own_at_first 2 1 1; client = tt } → q ≡ acted (λ deed p. p.client) (Collected 0 0 mail) p → r ≡ acted (λ deed p. p.client) (Collected 0 0 rest) q → mail ≡ 1 → rest ≡ 0
+held : (p q r : P) (mail rest : ℕ) → p ≡ record { own = own_at_first 2 1 1; client = tt } → q ≡ place_after (λ deed p. p.client) (Collected 0 0 mail) p → r ≡ place_after (λ deed p. p.client) (Collected 0 0 rest) q → mail ≡ 1 → rest ≡ 0
     → bit_at (slice_index r.own.stock.holds 0) 0 ≡ 1
 held p q r mail rest is next last one none =
     ap (λ (x : P). bit_at (slice_index x.own.stock.holds 0) 0) last
-    ∙ (ap (λ (x : P). bit_at (slice_index (acted (λ deed p. p.client) (Collected 0 0 rest) x).own.stock.holds 0) 0) (next ∙ ap (λ (x : P). acted (λ deed p. p.client) (Collected 0 0 mail) x) is)
+    ∙ (ap (λ (x : P). bit_at (slice_index (place_after (λ deed p. p.client) (Collected 0 0 rest) x).own.stock.holds 0) 0) (next ∙ ap (λ (x : P). place_after (λ deed p. p.client) (Collected 0 0 mail) x) is)
     ∙ (λ i. bit_at (bit_or (bit_or 0 (mail_mask 0 (one i))) (mail_mask 0 (none i))) 0))
 
 pub read_part-requires-clause-held : goal.read_part-requires-clause-held
@@ -104,10 +104,10 @@ release-requires-clause-held g c =
     ∙ held _ _ _ c.collect-mail.result c.collect-rest.result is c.collect-mail.ensures.place c.collect-rest.ensures.place (search rules) (search rules)
 
 -- the place of the first federate, seated again after four steps of the second
-again : (a b d e h l : F) → a.seated ≡ 0 → b ≡ record a { seated = 1 } → Came first b d → Came first d e → Came first e h → Came first h l → place_of first (record l { seated = 0 }) ≡ place_of first a
+again : (a b d e h l : F) → a.seated ≡ 0 → b ≡ record a { seated = 1 } → AreSteps first b d → AreSteps first d e → AreSteps first e h → AreSteps first h l → place_of first (record l { seated = 0 }) ≡ place_of first a
 again a b d e h l zero is bd de eh hl =
     let on = came_on first in
-    let all : Came first b l = on b h l (on b e h (on b d e bd de) eh) hl in
+    let all : AreSteps first b l = on b h l (on b e h (on b d e bd de) eh) hl in
     let one : b.seated ≡ 1 = ap (λ (x : F). x.seated) is in
     place_else first b l all 0 (λ z. omega (arith, one, z)) ∙ ap (λ (x : F). place_of first (record x { seated = 0 })) is ∙ (λ i. place_of first (record a { seated = sym zero i }))
 
