@@ -21,15 +21,16 @@ use Rattle.kit_ground.proofs.PlainSeats.{seated_at, seated_is}
 use Rattle.kit_courier.specs.declared.view.CourierView.{CourierView}
 use Rattle.kit_courier.specs.declared.view.Letter.{Letter}
 use Rattle.kit_courier.specs.declared.view.Receipt.{Receipt}
+use Rattle.kit_courier.specs.declared.view.Sent.{Sent}
 use Rattle.kit_courier.specs.Calls.{IsReceived, IsUnmoved}
 use Rattle.kit_courier.specs.Couriers.{courier_rule}
 use Rattle.kit_courier.specs.Deliveries.{courier_first, newcomer}
-use Rattle.kit_courier.specs.Letters.{sent_by}
+use Rattle.kit_courier.specs.Letters.{WasSentTo, sent_by}
 use Rattle.kit_courier.proofs.LetterSteps.{sent_here}
 use Rattle.kit_courier.proofs.Openings.{nothing_in}
 
 abbrev pub F : Type 0
-F = Floor (Unit {0}) CourierView
+F = Floor ℕ CourierView
 
 abbrev at : F → Place CourierView
 at f = place_of courier_first f
@@ -46,13 +47,17 @@ pub got_from : (p q : Place CourierView) (o : Option Letter) → p.client.got �
 got_from p q None new h = h.got ∙ new
 got_from p q (Some letter) new h = h.got ∙ ap (λ l. l ++ receipt_of letter ∷ []) new
 
+-- a letter for the second federate
+abbrev pub for_second : Letter → Sent
+for_second letter = record { to = 2 ^ 1; letter = letter }
+
 -- whoever sent at most one letter sent no other
-only_letter : (t : Bool) (letter x : Letter) → Contains (if t then [] ++ letter ∷ [] else []) x → x ≡ letter
-only_letter true letter x has = ⊎_elim (λ none. absurd (nothing_in x none)) (λ e. sym e) (Contains-push_cases [] letter x has)
-only_letter false letter x has = absurd (nothing_in x has)
+only_letter : (t : Bool) (letter x : Letter) (d : ℕ) → WasSentTo (if t then [] ++ for_second letter ∷ [] else []) d x → x ≡ letter
+only_letter true letter x d h = ⊎_elim (λ none. absurd (nothing_in _ none)) (λ e. ap (λ (s : Sent). s.letter) (sym e)) (Contains-push_cases [] (for_second letter) (record { to = h.to; letter = x }) h.has)
+only_letter false letter x d h = absurd (nothing_in _ h.has)
 
 -- f is new, the first has come to g, and then the second is seated
-module _ (f g h : F) (new : f ≡ new_floor courier_first tt 2 1) (first : AreSteps courier_first f g) (seats : h ≡ record g { seated = 1 }) where
+module _ (f g h : F) (new : f ≡ new_floor courier_first 2 2 1) (first : AreSteps courier_first f g) (seats : h ≡ record g { seated = 1 }) where
   seated_first : f.seated ≡ 0
   seated_first = ap (λ (x : F). x.seated) new
 
@@ -63,8 +68,8 @@ module _ (f g h : F) (new : f ≡ new_floor courier_first tt 2 1) (first : AreSt
   two = first.many ∙ ap (λ (x : F). length x.places) new
 
   -- the second is as it was
-  pub second_new : at h ≡ record { own = own_at_first 2 1 1; client = newcomer }
-  second_new = seated_is courier_first h 1 seated_second (record { own = own_at_first 2 1 1; client = newcomer })
+  pub second_new : at h ≡ record { own = own_at_first 2 1 1; client = newcomer 2 }
+  second_new = seated_is courier_first h 1 seated_second (record { own = own_at_first 2 1 1; client = newcomer 2 })
       (ap (λ (x : F). get_elem? x.places 1) seats ∙ (first.others 1 (λ e. let z : 1 ≡ f.seated = e in let s = seated_first in absurd (omega arith)) ∙ ap (λ (x : F). get_elem? x.places 1) new))
 
   -- the second has come to k
@@ -80,20 +85,20 @@ module _ (f g h : F) (new : f ≡ new_floor courier_first tt 2 1) (first : AreSt
         seated_at courier_first k 1 (second.seated ∙ seated_second) (omega arith)
 
     -- what it got is the letter that the first sent
-    pub got_is_sent : (t : Bool) (letter got : Letter) → RulesHold courier_rule k → (at g).client.sent ≡ (if t then (at f).client.sent ++ letter ∷ [] else (at f).client.sent) → IsReceived (at h) 0 0 got (at k) → got ≡ letter
+    pub got_is_sent : (t : Bool) (letter got : Letter) → RulesHold courier_rule k → (at g).client.sent ≡ (if t then (at f).client.sent ++ for_second letter ∷ [] else (at f).client.sent) → IsReceived (at h) 0 0 got (at k) → got ≡ letter
     got_is_sent t letter got ruled sent received =
         let receipt : Receipt = record { from = 0; letter = got } in
         let has : Contains (at k).client.got receipt = subst (λ (l : List Receipt). Contains l receipt) (sym received.got) (Contains-push (at h).client.got receipt) in
-        let was : Contains (sent_by k.places 0) got = (ruled.words.client.letters.each 1 (at k) second_there).got receipt has in
-        let all : sent_by k.places 0 ≡ (if t then [] ++ letter ∷ [] else []) = sent_here k.places 0 (at g) first_there ∙ (sent ∙ ap (λ (x : F). if t then (at x).client.sent ++ letter ∷ [] else (at x).client.sent) new) in
-        only_letter t letter got (subst (λ (l : List Letter). Contains l got) all was)
+        let was : WasSentTo (sent_by k.places 0) 1 got = (ruled.words.client.letters.each 1 (at k) second_there).got receipt has in
+        let all : sent_by k.places 0 ≡ (if t then [] ++ for_second letter ∷ [] else []) = sent_here k.places 0 (at g) first_there ∙ (sent ∙ ap (λ (x : F). if t then (at x).client.sent ++ for_second letter ∷ [] else (at x).client.sent) new) in
+        only_letter t letter got 1 (subst (λ (l : List Sent). WasSentTo l 1 got) all was)
 
 -- where the first mail word stands among all
 pub first_mail : (m : ℕ) → mail_index m 0 0 ≡ 0
 first_mail m = omega arith
 
 -- a new floor's first look finds its buffer free
-pub free_at_first : (f g : F) (t : Bool) → f ≡ new_floor courier_first tt 2 1 → IsOneStep courier_first f (SawFree 0 t) g → t ≡ true
+pub free_at_first : (f g : F) (t : Bool) → f ≡ new_floor courier_first 2 2 1 → IsOneStep courier_first f (SawFree 0 t) g → t ≡ true
 free_at_first f g t new did =
     let zeros : memory f ≡ zero_memory = ap memory new ∙ memory_blank 2 1 in
     did.step.allowed.2 ∙ ap (λ (m : Memory). m (Count (at f).own.number 0) == 0) zeros

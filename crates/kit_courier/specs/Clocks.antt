@@ -14,7 +14,7 @@ clock m k = m (Register (clock_of k))
 
 -- what is known of the clocks of n federates
 pub record Knows (m : Memory) (n : ℕ) (v : CourierView) : Type 0 where
-  pub wide : length v.known ≡ 16
+  pub wide : length v.known ≡ n
   pub behind : (k : ℕ) → k < n → slice_index v.known k ≤ clock m k
 
 pub record Clocks (m : Memory) (places : List (Place CourierView)) : Type 0 where

@@ -11,12 +11,13 @@ use Rattle.kit_courier.specs.declared.view.Letter.{Letter}
 use Rattle.kit_courier.specs.declared.view.Reading.{Reading}
 use Rattle.kit_courier.specs.declared.view.Receipt.{Receipt}
 
-abbrev pub newcomer : CourierView
-newcomer = record { known = replicate 16 0; sent = []; reading = None; got = [] }
+-- of a federate among so many, who has sent and got nothing
+abbrev pub newcomer : ℕ → CourierView
+newcomer federates = record { known = replicate federates 0; sent = []; reading = None; got = [] }
 
--- nobody's view depends on the opening
-abbrev pub courier_first : Unit {0} → ℕ → CourierView
-courier_first about k = newcomer
+-- the opening is the number of federates
+abbrev pub courier_first : ℕ → ℕ → CourierView
+courier_first federates k = newcomer federates
 
 -- the register with a federate's clock
 abbrev pub clock_of : ℕ → Reg
@@ -27,23 +28,23 @@ abbrev pub letter_of : Buffer → Letter
 letter_of c = record { head = c.head; body = c.body }
 
 -- a clock was looked at
-abbrev pub learnt : Reg → ℕ → List ℕ → List ℕ
-learnt r word known = if r.slot == 12 then slice_set known r.owner word else known
+abbrev pub known_after : Reg → ℕ → List ℕ → List ℕ
+known_after r word known = if r.slot == 12 then slice_set known r.owner word else known
 
 -- the body was read, so the letter is whole
-abbrev pub received : Option Reading → ℕ → List Receipt → List Receipt
-received None body got = got
-received (Some r) body got = got ++ record { from = r.from; letter = record { head = r.head; body = body } } ∷ []
+abbrev pub got_after : Option Reading → ℕ → List Receipt → List Receipt
+got_after None body got = got
+got_after (Some r) body got = got ++ record { from = r.from; letter = record { head = r.head; body = body } } ∷ []
 
 -- a buffer that was being read is released
-abbrev pub put_down : ℕ → ℕ → Option Reading → Option Reading
-put_down i k None = None
-put_down i k (Some r) = if r.from == i && r.buffer == k then None else Some r
+abbrev pub reading_after : ℕ → ℕ → Option Reading → Option Reading
+reading_after i k None = None
+reading_after i k (Some r) = if r.from == i && r.buffer == k then None else Some r
 
-abbrev pub delivered : Deed → Place CourierView → CourierView
-delivered (Looked r word) p = record p.client { known = learnt r word p.client.known }
-delivered (Charged k mask) p = record p.client { sent = p.client.sent ++ letter_of (buffer_of p.own.stock k) ∷ [] }
-delivered (ReadPart i k zero word) p = record p.client { reading = Some (record { from = i; buffer = k; head = word }) }
-delivered (ReadPart i k (suc _) word) p = record p.client { reading = None; got = received p.client.reading word p.client.got }
-delivered (Released i k) p = record p.client { reading = put_down i k p.client.reading }
-delivered _ p = p.client
+abbrev pub view_after : Deed → Place CourierView → CourierView
+view_after (Looked r word) p = record p.client { known = known_after r word p.client.known }
+view_after (Charged k mask) p = record p.client { sent = p.client.sent ++ record { to = mask; letter = letter_of (buffer_of p.own.stock k) } ∷ [] }
+view_after (ReadPart i k zero word) p = record p.client { reading = Some (record { from = i; buffer = k; head = word }) }
+view_after (ReadPart i k (suc _) word) p = record p.client { reading = None; got = got_after p.client.reading word p.client.got }
+view_after (Released i k) p = record p.client { reading = reading_after i k p.client.reading }
+view_after _ p = p.client

@@ -6,8 +6,8 @@ use Rattle.kit_ground.specs.declared.place.Place.{Place}
 use Rattle.kit_ground.specs.Guests.{GuestKeeps}
 use Rattle.kit_courier.specs.declared.view.CourierView.{CourierView}
 use Rattle.kit_courier.specs.Couriers.{courier_rule}
-use Rattle.kit_courier.specs.Deliveries.{clock_of, delivered}
+use Rattle.kit_courier.specs.Deliveries.{clock_of, view_after}
 
 -- a guest may look at each clock
 abbrev pub GuestsLearn : Type 0
-GuestsLearn = (g : Place CourierView) (k : ℕ) → GuestKeeps courier_rule delivered g (Register (clock_of k)) (λ word. Looked (clock_of k) word)
+GuestsLearn = (g : Place CourierView) (k : ℕ) → GuestKeeps courier_rule view_after g (Register (clock_of k)) (λ word. Looked (clock_of k) word)

@@ -4,7 +4,7 @@ use kit_ground::{Event, Protocol};
 /// The rule of this client.
 ///
 /// What a federate knows of a clock is at most what its register shows, and each letter that was
-/// read is one that its sender sent.
+/// read is one that its sender sent to its reader.
 pub struct Couriers;
 
 impl Protocol for Couriers {
@@ -13,7 +13,8 @@ impl Protocol for Couriers {
 
     type View = CourierView;
 
-    type Opening = ();
+    /// How many federates there are.
+    type Opening = u8;
 
     ghost rule = { courier_rule };
 
@@ -24,7 +25,7 @@ impl Protocol for Couriers {
 pub struct Deliveries;
 
 impl Event<CourierView> for Deliveries {
-    ghost use Rattle.kit_courier.specs.Deliveries.{delivered};
+    ghost use Rattle.kit_courier.specs.Deliveries.{view_after};
 
-    ghost next = { delivered };
+    ghost next = { view_after };
 }

@@ -14,7 +14,7 @@ pub use couriers::{Couriers, Deliveries};
 pub use laws::guests_learn;
 pub use letters::{receive, send};
 pub use pair::{exchange, hand_over};
-pub use view::{CourierView, Letter, Reading, Receipt};
+pub use view::{CourierView, Letter, Reading, Receipt, Sent};
 
 #[cfg(test)]
 mod tests;

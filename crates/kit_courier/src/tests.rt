@@ -1,5 +1,6 @@
 use super::*;
 use kit_ground::PlainFloor;
+use kit_known::Known;
 use std::test::Fail;
 use std::thread::join;
 
@@ -13,7 +14,7 @@ fn a_letter_comes(rt: HostRuntime) -> Result<(), Fail> {
 
 #[test]
 fn one_clock_is_found_by_the_other(rt: HostRuntime) -> Result<(), Fail> {
-    let mut floor = PlainFloor::<Couriers>::new(rt.alloc(), 2, 1, &())?;
+    let mut floor = PlainFloor::<Couriers>::new(rt.alloc(), 2, 1, &Known::new(&2))?;
     let none = advance(&mut floor, 5);
     floor.seat(1);
     let other = advance(&mut floor, 3);
@@ -24,7 +25,7 @@ fn one_clock_is_found_by_the_other(rt: HostRuntime) -> Result<(), Fail> {
 
 #[test]
 fn a_floor_goes_to_another_thread(rt: HostRuntime) -> Result<(), Fail> {
-    let floor = PlainFloor::<Couriers>::new(rt.alloc(), 2, 1, &())?;
+    let floor = PlainFloor::<Couriers>::new(rt.alloc(), 2, 1, &Known::new(&2))?;
     let (one, two) = join(
         &rt,
         move || {

@@ -21,12 +21,18 @@ pub struct Receipt {
     pub letter: Letter,
 }
 
+/// A letter that a federate charged a buffer with, and for whom: the mask of its receivers.
+pub struct Sent {
+    pub to: u64,
+    pub letter: Letter,
+}
+
 /// A federate's view.
 pub struct CourierView {
-    /// The clock of each federate, as it was last looked at; 0 before. There are places for 16.
+    /// The clock of each federate, as it was last looked at; 0 before.
     pub known: LinkedList<u64>,
     /// The letters that it charged a buffer with, in order.
-    pub sent: LinkedList<Letter>,
+    pub sent: LinkedList<Sent>,
     /// The buffer that it is reading.
     pub reading: Option<Reading>,
     /// The letters that it read, in order.

@@ -1,8 +1,12 @@
 -- One bit of a mask.
-use Rattle.std.proofs.Common.{◌≡◌, ◌≢◌, ℕ, ◌+◌, ◌%◌, ◌^◌, ◌<◌, max, arith}
-use Rattle.std.proofs.lemmas.Nat.Bits.{bit_at-lt, bit_at_or, bit_at_xor, bit_at-pow_same, bit_at-pow_other}
+use Rattle.std.proofs.Common.{◌≡◌, ◌≢◌, ℕ, ◌+◌, ◌*◌, ◌/◌, ◌%◌, ◌^◌, ◌<◌, ◌≤◌, max, sym, ap, ◌∙◌, subst, arith, div-add-mod'}
+use Rattle.std.proofs.Math.Nat.{mod-lt}
+use Rattle.std.proofs.lemmas.Bool.{cases_lt}
+use Rattle.std.proofs.lemmas.Nat.{pow_pos}
+use Rattle.std.proofs.lemmas.Nat.Bits.{bit_at-lt, bit_at-zero, bit_at_above, bit_at_cat_low, bit_at_or, bit_at_xor, bit_at-pow_same, bit_at-pow_other, same_from_bits, same_from_bits_below}
 use Rattle.std.specs.Prelude.{bit_or, bit_xor}
 use Rattle.std.specs.Int.{bit_at}
+use mathlib.Core.Logic.{⊎_elim}
 
 pub flipped_else : (m j x : ℕ) → x ≢ j → bit_at (bit_xor m (2 ^ j)) x ≡ bit_at m x
 flipped_else m j x apart =
@@ -38,3 +42,19 @@ joined_here m k =
     let z : v ≡ 1 = bit_at-pow_same k in
     let l : u < 2 = bit_at-lt m k in
     omega arith
+
+-- a number with no bit from b on is below 2 ^ b
+pub below_by_bits : (a b : ℕ) → ((i : ℕ) → b ≤ i → bit_at a i ≡ 0) → a < 2 ^ b
+below_by_bits a b none =
+    let low : ℕ = a % 2 ^ b in
+    let small : low < 2 ^ b = mod-lt a (pow_pos b) in
+    let whole : (a / 2 ^ b) * 2 ^ b + low ≡ a = div-add-mod' a (2 ^ b) in
+    let same : a ≡ low = same_from_bits a low (λ i. ⊎_elim
+    (λ (lt : i < b). ap (λ (x : ℕ). bit_at x i) (sym whole) ∙ bit_at_cat_low (a / 2 ^ b) b low i lt)
+    (λ (le : b ≤ i). none i le ∙ sym (bit_at_above low b i small le))
+    (cases_lt i b)) in
+    subst (λ (x : ℕ). x < 2 ^ b) (sym same) small
+
+-- a number below 2 ^ b with no bit below b is 0
+pub none_by_bits : (a b : ℕ) → a < 2 ^ b → ((i : ℕ) → i < b → bit_at a i ≡ 0) → a ≡ 0
+none_by_bits a b small none = same_from_bits_below b a 0 small (pow_pos b) (λ i li. none i li ∙ sym (bit_at-zero i))

@@ -1,5 +1,6 @@
 -- The rule of the sets after a step that changes what the seat knows of one of its buffers.
-use Rattle.std.proofs.Common.{Bool, true, ◌≡◌, ◌≢◌, ℕ, zero, suc, ◌+◌, ◌*◌, ◌/◌, ◌%◌, ◌^◌, ◌<◌, ◌≤◌, List, length, refl, sym, ap, ◌∙◌, subst, arith, true≢false, length-set}
+use Rattle.std.proofs.Common.{Bool, true, ◌≡◌, ◌≢◌, ◌⊎◌, inl, inr, ℕ, zero, suc, ◌+◌, ◌*◌, ◌/◌, ◌%◌, ◌^◌, ◌<◌, ◌≤◌, List, length, refl, sym, ap, ◌∙◌, subst, arith, true≢false, length-set}
+use Rattle.std.proofs.lemmas.Nat.{pow_below, xor_lt}
 use Rattle.std.proofs.lemmas.Nat.Bits.{bit_at-lt}
 use Rattle.std.specs.Prelude.{slice_index, bit_or}
 use Rattle.std.specs.Int.{bit_at}
@@ -13,7 +14,7 @@ use Rattle.kit_ground.specs.Memory.{Memory, with_word}
 use Rattle.kit_ground.specs.Sets.{Pool, buffer_at, due, stock_at, to_be_posted, posted, holding}
 use Rattle.kit_ground.specs.Steps.{buffer_of, with_buffer, part_of, buffer_after_look, buffer_after_write, buffer_after_charge, buffer_after_post}
 use Rattle.kit_ground.proofs.Bits.{flipped_else, flipped_here, joined_else, joined_here}
-use Rattle.kit_ground.proofs.Fits.{Fits, Narrow, at_buffer, due_is, due_same, fits, fits_as_before, fits_aside, pool_from_fits, seat_inside, buffers_long, holds_long}
+use Rattle.kit_ground.proofs.Fits.{Fits, Narrow, at_buffer, due_is, due_same, fits, fits_as_before, fits_aside, pool_from_fits, seat_inside, buffers_long, holds_below, holds_long}
 use Rattle.kit_ground.proofs.Memories.{stored_here, count_else, mail_else, part_else}
 use Rattle.kit_ground.proofs.MailWords.{same_buffer, whole_buffer}
 use Rattle.kit_ground.proofs.Ones.{ones_sum}
@@ -78,7 +79,7 @@ module _ (m : Memory) (stocks : List SeatBuffers) (n b me : ℕ) (s : SeatBuffer
         → ((i x j : ℕ) → (i ≡ me → x ≢ k) → posted now (after c) i x j ≡ posted m stocks i x j)
         → Narrow now n b → Pool now (after c) n b
     from_here now c here count parts mail narrow =
-        pool_from_fits m stocks n b h now me (with_buffer k c s) inside (length-set s.buffers k c ∙ long_buffers) long_holds
+        pool_from_fits m stocks n b h now me (with_buffer k c s) inside (length-set s.buffers k c ∙ long_buffers) long_holds (holds_below m stocks n b h me s is lme)
         (at_buffer (Fits now (after c) n) n b me k here (λ i x li lx apart.
         let buffer : buffer_at now (after c) i x ≡ buffer_at m stocks i x = buffer_else stocks me s is inside k c i x apart in
         fits_aside m now stocks (after c) n i x li (fits m stocks n b h i x li lx) (count i x apart) (λ p lp. parts i x p apart) buffer
@@ -94,9 +95,36 @@ module _ (m : Memory) (stocks : List SeatBuffers) (n b me : ℕ) (s : SeatBuffer
         (ap (λ (d : Buffer). bit_at d.to_post j) (now_is now c) ∙ (ap (λ (x : ℕ). bit_at x j) post ∙ ap (λ (d : Buffer). bit_at d.to_post j) (sym was)))
         (mail j) (holding_same now c me k j)
 
+    owed_here : (now : Memory) (c : Buffer) → c.to_post < 2 ^ n → (buffer_at now (after c) me k).to_post < 2 ^ n
+    owed_here now c small = subst (λ (d : Buffer). d.to_post < 2 ^ n) (sym (now_is now c)) small
+
+    -- what was still to be posted is for federates that there are
+    owed_before : old.to_post < 2 ^ n
+    owed_before = subst (λ (d : Buffer). d.to_post < 2 ^ n) was fits_here.owed
+
     content_kept : (now : Memory) (c : Buffer) → c.head ≡ old.head → c.body ≡ old.body → ((p : ℕ) → now (Part me k p) ≡ m (Part me k p)) → (p : ℕ) → p < 2 → now (Part me k p) ≡ part_of p (buffer_at now (after c) me k)
     content_kept now c head body parts p lp =
         parts p ∙ (fits_here.content p lp ∙ (ap (part_of p) was ∙ (sym (same_parts p c old head body) ∙ ap (part_of p) (sym (now_is now c)))))
+
+    -- ---- who is due, where what is still to be posted is as before
+    to_be_posted_same : (now : Memory) (c : Buffer) → c.to_post ≡ old.to_post → (i x j : ℕ) → to_be_posted now (after c) i x j ≡ to_be_posted m stocks i x j
+    to_be_posted_same now c same i x j = dite (ℕ_discrete i me)
+        (λ mine. dite (ℕ_discrete x k)
+        (λ here. (λ t. bit_at (buffer_at now (after c) (mine t) (here t)).to_post j)
+        ∙ (ap (λ (d : Buffer). bit_at d.to_post j) (now_is now c)
+        ∙ (ap (λ (y : ℕ). bit_at y j) same
+        ∙ (ap (λ (d : Buffer). bit_at d.to_post j) (sym was) ∙ (λ t. bit_at (buffer_at m stocks (sym mine t) (sym here t)).to_post j)))))
+        (λ other. ap (λ (d : Buffer). bit_at d.to_post j) (buffer_else stocks me s is inside k c i x (λ _. other))))
+        (λ other. ap (λ (d : Buffer). bit_at d.to_post j) (buffer_else stocks me s is inside k c i x (λ a. absurd (other a))))
+
+    due_all : (now : Memory) (c : Buffer) → c.to_post ≡ old.to_post → ((i x j : ℕ) → posted now (after c) i x j ≡ posted m stocks i x j) → (i x j : ℕ) → due now (after c) i x j ≡ due m stocks i x j
+    due_all now c same mail i x j = due_same m now stocks (after c) n i x j (to_be_posted_same now c same i x j) (mail i x j) (holding_same now c i x j)
+
+    pub see_due : (free : Bool) (i x j : ℕ) → due m (after (buffer_after_look free old)) i x j ≡ due m stocks i x j
+    see_due free = due_all m (buffer_after_look free old) refl (λ i x j. refl)
+
+    pub write_due : (p word i x j : ℕ) → due (with_word m (Part me k p) word) (after (buffer_after_write p word old)) i x j ≡ due m stocks i x j
+    write_due p word = due_all (with_word m (Part me k p) word) (buffer_after_write p word old) (written_to_post p word old) (λ i x j. refl)
 
     -- ---- a look at the count
     pub sees : (free : Bool) → (free ≡ true → m (Count me k) ≡ 0) → Pool m (after (buffer_after_look free old)) n b
@@ -104,7 +132,8 @@ module _ (m : Memory) (stocks : List SeatBuffers) (n b me : ℕ) (s : SeatBuffer
         let c : Buffer = buffer_after_look free old in
         from_here m c (fits_as_before m m stocks (after c) n me k lme fits_here refl (due_kept m c refl (λ j. refl))
         (λ e. none (sym (ap (λ (d : Buffer). d.free) (now_is m c)) ∙ e))
-        (content_kept m c refl refl (λ p. refl)))
+        (content_kept m c refl refl (λ p. refl))
+        (owed_here m c owed_before))
         (λ i x apart. refl) (λ i x p apart. refl) (λ i x j apart. refl) h.narrow
 
     -- ---- a write of a content word
@@ -119,70 +148,119 @@ module _ (m : Memory) (stocks : List SeatBuffers) (n b me : ℕ) (s : SeatBuffer
         (λ apart. part_else m me k p me k q word (λ _ _. apart) ∙ (fits_here.content q lq ∙ (ap (part_of q) was ∙ (sym (written_else p q word old lp lq apart) ∙ ap (part_of q) (sym (now_is now c)))))) in
         from_here now c (fits_as_before m now stocks (after c) n me k lme fits_here refl (due_kept now c (written_to_post p word old) (λ j. refl))
         (λ e. fits_here.free (ap (λ (d : Buffer). d.free) was ∙ (sym (written_free p word old) ∙ (sym (ap (λ (d : Buffer). d.free) (now_is now c)) ∙ e))))
-        content)
+        content
+        (owed_here now c (subst (λ (x : ℕ). x < 2 ^ n) (sym (written_to_post p word old)) owed_before)))
         (λ i x apart. refl) (λ i x q apart. part_else m me k p i x q word (λ a e. absurd (apart a e))) (λ i x j apart. refl) h.narrow
 
     -- ---- a charge
+    -- from then on those of the mask are due
+    charge_here : (mask : ℕ) → old.free ≡ true → (j : ℕ) → j < n → due (with_word m (Count me k) (ones mask)) (after (buffer_after_charge mask old)) me k j ≡ bit_at mask j
+    charge_here mask free j lj =
+        let c : Buffer = buffer_after_charge mask old in
+        let now : Memory = with_word m (Count me k) (ones mask) in
+        let none = free_in_none m stocks n b h me k lme lk j lj (ap (λ (d : Buffer). d.free) was ∙ free) in
+        due_is now (after c) me k j ∙ ((λ t. bit_at (now_is now c t).to_post j + none.posted t + (holding_same now c me k j ∙ none.holding) t) ∙ omega arith)
+
+    -- and for other buffers as many as before
+    charge_else : (mask i x j : ℕ) → (i ≡ me → x ≢ k) → due (with_word m (Count me k) (ones mask)) (after (buffer_after_charge mask old)) i x j ≡ due m stocks i x j
+    charge_else mask i x j apart =
+        let c : Buffer = buffer_after_charge mask old in
+        let now : Memory = with_word m (Count me k) (ones mask) in
+        due_same m now stocks (after c) n i x j (ap (λ (d : Buffer). bit_at d.to_post j) (buffer_else stocks me s is inside k c i x apart)) refl (holding_same now c i x j)
+
+    pub charge_due : (mask : ℕ) → old.free ≡ true → (i x j : ℕ) → j < n → due (with_word m (Count me k) (ones mask)) (after (buffer_after_charge mask old)) i x j ≡ 1
+        → (due m stocks i x j ≡ 1) ⊎ ((i ≡ me) × (x ≡ k) × (bit_at mask j ≡ 1))
+    charge_due mask free i x j lj one = dite (ℕ_discrete i me)
+        (λ mine. dite (ℕ_discrete x k)
+        (λ here. inr (mine, here, sym (charge_here mask free j lj) ∙ ((λ t. due (with_word m (Count me k) (ones mask)) (after (buffer_after_charge mask old)) (sym mine t) (sym here t) j) ∙ one)))
+        (λ other. inl (sym (charge_else mask i x j (λ _. other)) ∙ one)))
+        (λ other. inl (sym (charge_else mask i x j (λ a. absurd (other a))) ∙ one))
+
     pub charges : (mask : ℕ) → old.free ≡ true → mask < 2 ^ n → bit_at mask me ≡ 0 → Pool (with_word m (Count me k) (ones mask)) (after (buffer_after_charge mask old)) n b
     charges mask free narrow without =
         let c : Buffer = buffer_after_charge mask old in
         let now : Memory = with_word m (Count me k) (ones mask) in
-        let due_here : (j : ℕ) → j < n → due now (after c) me k j ≡ bit_at mask j =
-        λ j lj.
-        let none = free_in_none m stocks n b h me k lme lk j lj (ap (λ (d : Buffer). d.free) was ∙ free) in
-        due_is now (after c) me k j ∙ ((λ t. bit_at (now_is now c t).to_post j + none.posted t + (holding_same now c me k j ∙ none.holding) t) ∙ omega arith) in
+        let due_here = charge_here mask free in
         from_here now c (record {
           counted = stored_here m (Count me k) (ones mask) ∙ sym (sum_same (due now (after c) me k) (λ j. bit_at mask j) n due_here ∙ ones_sum n mask narrow);
           once = λ j lj. subst (λ (x : ℕ). x ≤ 1) (sym (due_here j lj)) (let l = bit_at-lt mask j in omega arith);
           others = due_here me lme ∙ without;
           free = λ e. absurd (true≢false (sym e ∙ ap (λ (d : Buffer). d.free) (now_is now c)));
           content = content_kept now c refl refl (λ p. refl);
+          owed = owed_here now c narrow;
         })
         (λ i x apart. count_else m me k i x (ones mask) apart) (λ i x p apart. refl) (λ i x j apart. refl) h.narrow
 
     -- ---- a post
-    pub posts : (j : ℕ) → j < n → bit_at old.to_post j ≡ 1 → Pool (with_word m (Mail j me (k / 64)) (bit_or (m (Mail j me (k / 64))) (2 ^ (k % 64)))) (after (buffer_after_post j old)) n b
-    posts j lj on =
-        let c : Buffer = buffer_after_post j old in
-        let w : ℕ = k / 64 in
-        let bit : ℕ = k % 64 in
-        let mail : ℕ = m (Mail j me w) in
-        let more : ℕ = bit_or mail (2 ^ bit) in
-        let now : Memory = with_word m (Mail j me w) more in
-        let mail_here : now (Mail j me w) ≡ more = stored_here m (Mail j me w) more in
-        let posted_else : (i x y : ℕ) → (i ≡ me → x ≡ k → y ≢ j) → posted now (after c) i x y ≡ posted m stocks i x y =
-        λ i x y apart. dite (ℕ_discrete i me)
-        (λ mine. dite (ℕ_discrete y j)
-        (λ same. dite (ℕ_discrete (x / 64) w)
-        (λ word. (λ t. bit_at (now (Mail (same t) (mine t) (word t))) (x % 64)) ∙ (ap (λ (v : ℕ). bit_at v (x % 64)) mail_here ∙ (joined_else mail bit (x % 64) (λ e. apart mine (same_buffer x k word e) same) ∙ (λ t. bit_at (m (Mail (sym same t) (sym mine t) (sym word t))) (x % 64)))))
-        (λ other. ap (λ (v : ℕ). bit_at v (x % 64)) (mail_else m j me w y i (x / 64) more (λ _ _. other))))
-        (λ other. ap (λ (v : ℕ). bit_at v (x % 64)) (mail_else m j me w y i (x / 64) more (λ _ e. absurd (other e)))))
-        (λ other. ap (λ (v : ℕ). bit_at v (x % 64)) (mail_else m j me w y i (x / 64) more (λ e. absurd (other e)))) in
-        let before : to_be_posted m stocks me k j ≡ 1 = ap (λ (d : Buffer). bit_at d.to_post j) was ∙ on in
-        let one = to_be_posted_due m stocks n b h me k lme lk j lj before in
-        let due_moved : due now (after c) me k j ≡ due m stocks me k j =
-        due_is now (after c) me k j
-        ∙ ((λ t. (ap (λ (d : Buffer). bit_at d.to_post j) (now_is now c) ∙ flipped_here old.to_post j on) t + (ap (λ (v : ℕ). bit_at v bit) mail_here ∙ joined_here mail bit) t + (holding_same now c me k j ∙ one.2) t) ∙ sym one.0) in
-        let same : (y : ℕ) → y < n → due now (after c) me k y ≡ due m stocks me k y =
-        λ y ly. dite (ℕ_discrete y j)
-        (λ e. subst (λ (z : ℕ). due now (after c) me k z ≡ due m stocks me k z) (sym e) due_moved)
-        (λ other. due_same m now stocks (after c) n me k y
-        (ap (λ (d : Buffer). bit_at d.to_post y) (now_is now c) ∙ (flipped_else old.to_post j y other ∙ ap (λ (d : Buffer). bit_at d.to_post y) (sym was)))
-        (posted_else me k y (λ _ _. other)) (holding_same now c me k y)) in
-        let narrow_here : (x : ℕ) → bit_at (now (Mail j me w)) x ≡ 1 → (x < 64) × (64 * w + x < b) =
-        λ x is. dite (ℕ_discrete x bit)
-        (λ e. let whole = whole_buffer k in (omega arith, omega arith))
-        (λ other. h.narrow j me w x lj lme (sym (joined_else mail bit x other) ∙ (ap (λ (v : ℕ). bit_at v x) (sym mail_here) ∙ is))) in
-        let narrow_else : (y i v x : ℕ) → y < n → i < n → (i ≡ me → y ≡ j → v ≢ w) → bit_at (now (Mail y i v)) x ≡ 1 → (x < 64) × (64 * v + x < b) =
-        λ y i v x ly li apart is. h.narrow y i v x ly li (ap (λ (z : ℕ). bit_at z x) (sym (mail_else m j me w y i v more apart)) ∙ is) in
-        from_here now c (fits_as_before m now stocks (after c) n me k lme fits_here refl same
-        (λ e. fits_here.free (ap (λ (d : Buffer). d.free) was ∙ (sym (ap (λ (d : Buffer). d.free) (now_is now c)) ∙ e)))
-        (content_kept now c refl refl (λ p. refl)))
-        (λ i x apart. refl) (λ i x p apart. refl) (λ i x y apart. posted_else i x y (λ a e. absurd (apart a e)))
-        (λ y i v x ly li. dite (ℕ_discrete i me)
-        (λ mine. dite (ℕ_discrete y j)
-        (λ e. dite (ℕ_discrete v w)
-        (λ word. subst (λ (z : ℕ × ℕ × ℕ). bit_at (now (Mail z.0 z.1 z.2)) x ≡ 1 → (x < 64) × (64 * z.2 + x < b)) (λ t. (sym e t, sym mine t, sym word t)) (narrow_here x))
-        (λ other. narrow_else y i v x ly li (λ _ _. other)))
-        (λ other. narrow_else y i v x ly li (λ _ a. absurd (other a))))
-        (λ other. narrow_else y i v x ly li (λ a. absurd (other a))))
+    module _ (j : ℕ) (lj : j < n) (on : bit_at old.to_post j ≡ 1) where
+      abbrev c : Buffer
+      c = buffer_after_post j old
+
+      abbrev w : ℕ
+      w = k / 64
+
+      abbrev mail : ℕ
+      mail = m (Mail j me w)
+
+      abbrev more : ℕ
+      more = bit_or mail (2 ^ (k % 64))
+
+      abbrev now : Memory
+      now = with_word m (Mail j me w) more
+
+      mail_here : now (Mail j me w) ≡ more
+      mail_here = stored_here m (Mail j me w) more
+
+      posted_else : (i x y : ℕ) → (i ≡ me → x ≡ k → y ≢ j) → posted now (after c) i x y ≡ posted m stocks i x y
+      posted_else i x y apart = dite (ℕ_discrete i me)
+          (λ mine. dite (ℕ_discrete y j)
+          (λ same. dite (ℕ_discrete (x / 64) w)
+          (λ word. (λ t. bit_at (now (Mail (same t) (mine t) (word t))) (x % 64)) ∙ (ap (λ (v : ℕ). bit_at v (x % 64)) mail_here ∙ (joined_else mail (k % 64) (x % 64) (λ e. apart mine (same_buffer x k word e) same) ∙ (λ t. bit_at (m (Mail (sym same t) (sym mine t) (sym word t))) (x % 64)))))
+          (λ other. ap (λ (v : ℕ). bit_at v (x % 64)) (mail_else m j me w y i (x / 64) more (λ _ _. other))))
+          (λ other. ap (λ (v : ℕ). bit_at v (x % 64)) (mail_else m j me w y i (x / 64) more (λ _ e. absurd (other e)))))
+          (λ other. ap (λ (v : ℕ). bit_at v (x % 64)) (mail_else m j me w y i (x / 64) more (λ e. absurd (other e))))
+
+      due_moved : due now (after c) me k j ≡ due m stocks me k j
+      due_moved =
+          let before : to_be_posted m stocks me k j ≡ 1 = ap (λ (d : Buffer). bit_at d.to_post j) was ∙ on in
+          let one = to_be_posted_due m stocks n b h me k lme lk j lj before in
+          due_is now (after c) me k j
+          ∙ ((λ t. (ap (λ (d : Buffer). bit_at d.to_post j) (now_is now c) ∙ flipped_here old.to_post j on) t + (ap (λ (v : ℕ). bit_at v (k % 64)) mail_here ∙ joined_here mail (k % 64)) t + (holding_same now c me k j ∙ one.2) t) ∙ sym one.0)
+
+      due_of_buffer : (y : ℕ) → y < n → due now (after c) me k y ≡ due m stocks me k y
+      due_of_buffer y ly = dite (ℕ_discrete y j)
+          (λ e. subst (λ (z : ℕ). due now (after c) me k z ≡ due m stocks me k z) (sym e) due_moved)
+          (λ other. due_same m now stocks (after c) n me k y
+          (ap (λ (d : Buffer). bit_at d.to_post y) (now_is now c) ∙ (flipped_else old.to_post j y other ∙ ap (λ (d : Buffer). bit_at d.to_post y) (sym was)))
+          (posted_else me k y (λ _ _. other)) (holding_same now c me k y))
+
+      due_of_others : (i x y : ℕ) → (i ≡ me → x ≢ k) → due now (after c) i x y ≡ due m stocks i x y
+      due_of_others i x y apart = due_same m now stocks (after c) n i x y (ap (λ (d : Buffer). bit_at d.to_post y) (buffer_else stocks me s is inside k c i x apart)) (posted_else i x y (λ a e. absurd (apart a e))) (holding_same now c i x y)
+
+      pub post_due : (i x y : ℕ) → y < n → due now (after c) i x y ≡ due m stocks i x y
+      post_due i x y ly = dite (ℕ_discrete i me)
+          (λ mine. dite (ℕ_discrete x k)
+          (λ here. subst (λ (z : ℕ × ℕ). due now (after c) z.0 z.1 y ≡ due m stocks z.0 z.1 y) (λ t. (sym mine t, sym here t)) (due_of_buffer y ly))
+          (λ other. due_of_others i x y (λ _. other)))
+          (λ other. due_of_others i x y (λ a. absurd (other a)))
+
+      pub posts : Pool now (after c) n b
+      posts =
+          let narrow_here : (x : ℕ) → bit_at (now (Mail j me w)) x ≡ 1 → (x < 64) × (64 * w + x < b) =
+          λ x is. dite (ℕ_discrete x (k % 64))
+          (λ e. let whole = whole_buffer k in (omega arith, omega arith))
+          (λ other. h.narrow j me w x lj lme (sym (joined_else mail (k % 64) x other) ∙ (ap (λ (v : ℕ). bit_at v x) (sym mail_here) ∙ is))) in
+          let narrow_else : (y i v x : ℕ) → y < n → i < n → (i ≡ me → y ≡ j → v ≢ w) → bit_at (now (Mail y i v)) x ≡ 1 → (x < 64) × (64 * v + x < b) =
+          λ y i v x ly li apart is. h.narrow y i v x ly li (ap (λ (z : ℕ). bit_at z x) (sym (mail_else m j me w y i v more apart)) ∙ is) in
+          from_here now c (fits_as_before m now stocks (after c) n me k lme fits_here refl due_of_buffer
+          (λ e. fits_here.free (ap (λ (d : Buffer). d.free) was ∙ (sym (ap (λ (d : Buffer). d.free) (now_is now c)) ∙ e)))
+          (content_kept now c refl refl (λ p. refl))
+          (owed_here now c (xor_lt n old.to_post (2 ^ j) owed_before (pow_below j n lj))))
+          (λ i x apart. refl) (λ i x p apart. refl) (λ i x y apart. posted_else i x y (λ a e. absurd (apart a e)))
+          (λ y i v x ly li. dite (ℕ_discrete i me)
+          (λ mine. dite (ℕ_discrete y j)
+          (λ e. dite (ℕ_discrete v w)
+          (λ word. subst (λ (z : ℕ × ℕ × ℕ). bit_at (now (Mail z.0 z.1 z.2)) x ≡ 1 → (x < 64) × (64 * z.2 + x < b)) (λ t. (sym e t, sym mine t, sym word t)) (narrow_here x))
+          (λ other. narrow_else y i v x ly li (λ _ _. other)))
+          (λ other. narrow_else y i v x ly li (λ _ a. absurd (other a))))
+          (λ other. narrow_else y i v x ly li (λ a. absurd (other a))))

@@ -1,6 +1,6 @@
 -- The rule of the sets, buffer by buffer.
-use Rattle.std.proofs.Common.{◌≡◌, ◌≢◌, ℕ, ◌+◌, ◌*◌, ◌<◌, ◌≤◌, true, List, length, refl, sym, ap, ◌∙◌, subst, arith, length-set}
-use Rattle.std.specs.Prelude.{slice_set}
+use Rattle.std.proofs.Common.{◌≡◌, ◌≢◌, ℕ, ◌+◌, ◌*◌, ◌^◌, ◌<◌, ◌≤◌, true, List, length, refl, sym, ap, ◌∙◌, subst, arith, length-set}
+use Rattle.std.specs.Prelude.{slice_index, slice_set}
 use Rattle.std.specs.Int.{bit_at}
 use mathlib.Core.Logic.{dite}
 use native.Mathlib.Decide.{ℕ_discrete}
@@ -28,6 +28,7 @@ pub record Fits (m : Memory) (stocks : List SeatBuffers) (n i k : ℕ) : Type 0 
   pub others : due m stocks i k i ≡ 0
   pub free : (buffer_at m stocks i k).free ≡ true → m (Count i k) ≡ 0
   pub content : (p : ℕ) → p < 2 → m (Part i k p) ≡ part_of p (buffer_at m stocks i k)
+  pub owed : (buffer_at m stocks i k).to_post < 2 ^ n
 
 module _ (m : Memory) (stocks : List SeatBuffers) (n b : ℕ) (h : Pool m stocks n b) where
   pub fits : (i k : ℕ) → i < n → k < b → Fits m stocks n i k
@@ -37,6 +38,7 @@ module _ (m : Memory) (stocks : List SeatBuffers) (n b : ℕ) (h : Pool m stocks
     others = h.others i k li lk;
     free = h.free i k li lk;
     content = λ p. h.content i k p li lk;
+    owed = h.owed i k li lk;
   }
 
   pub seat_inside : (me : ℕ) → me < n → me < length stocks
@@ -49,12 +51,16 @@ module _ (m : Memory) (stocks : List SeatBuffers) (n b : ℕ) (h : Pool m stocks
     pub holds_long : length s.holds ≡ n
     holds_long = ap (λ (q : SeatBuffers). length q.holds) (sym is) ∙ (h.sized me lme).1
 
+    pub holds_below : (i : ℕ) → i < n → slice_index s.holds i < 2 ^ b
+    holds_below i li = subst (λ (q : SeatBuffers). slice_index q.holds i < 2 ^ b) is (h.held me i lme li)
+
   -- the rule after a step of the seat `me`
   pub pool_from_fits : (now : Memory) (me : ℕ) (q : SeatBuffers) → me < length stocks → length q.buffers ≡ b → length q.holds ≡ n
+      → ((i : ℕ) → i < n → slice_index q.holds i < 2 ^ b)
       → ((i k : ℕ) → i < n → k < b → Fits now (slice_set stocks me q) n i k)
       → Narrow now n b
       → Pool now (slice_set stocks me q) n b
-  pool_from_fits now me q inside buffers holds each narrow = record {
+  pool_from_fits now me q inside buffers holds below each narrow = record {
     seats = length-set stocks me q ∙ h.seats;
     sized = of_each (λ i s. i < n → (length s.buffers ≡ b) × (length s.holds ≡ n)) stocks me q inside (λ _. (buffers, holds)) (λ i _ li. h.sized i li);
     counted = λ i k li lk. (each i k li lk).counted;
@@ -63,18 +69,21 @@ module _ (m : Memory) (stocks : List SeatBuffers) (n b : ℕ) (h : Pool m stocks
     free = λ i k li lk. (each i k li lk).free;
     content = λ i k p li lk lp. (each i k li lk).content p lp;
     narrow = narrow;
+    held = λ j i. of_each (λ j s. j < n → i < n → slice_index s.holds i < 2 ^ b) stocks me q inside (λ _. below i) (λ j _ lj. h.held j i lj) j;
+    owed = λ i k li lk. (each i k li lk).owed;
   }
 
 -- a buffer for which each federate counts as before
 module _ (m now : Memory) (stocks new : List SeatBuffers) (n i k : ℕ) where
   pub fits_as_before : i < n → Fits m stocks n i k → now (Count i k) ≡ m (Count i k) → ((j : ℕ) → j < n → due now new i k j ≡ due m stocks i k j)
-      → ((buffer_at now new i k).free ≡ true → m (Count i k) ≡ 0) → ((p : ℕ) → p < 2 → now (Part i k p) ≡ part_of p (buffer_at now new i k)) → Fits now new n i k
-  fits_as_before li h count same free content = record {
+      → ((buffer_at now new i k).free ≡ true → m (Count i k) ≡ 0) → ((p : ℕ) → p < 2 → now (Part i k p) ≡ part_of p (buffer_at now new i k)) → (buffer_at now new i k).to_post < 2 ^ n → Fits now new n i k
+  fits_as_before li h count same free content owed = record {
     counted = count ∙ (h.counted ∙ sum_same (due m stocks i k) (due now new i k) n (λ j lj. sym (same j lj)));
     once = λ j lj. subst (λ (x : ℕ). x ≤ 1) (sym (same j lj)) (h.once j lj);
     others = same i li ∙ h.others;
     free = λ is. count ∙ free is;
     content = content;
+    owed = owed;
   }
 
   -- so it is where he is in the same of its sets
@@ -87,6 +96,7 @@ module _ (m now : Memory) (stocks new : List SeatBuffers) (n i k : ℕ) where
   fits_aside li h count parts buffer same = fits_as_before li h count same
       (λ is. h.free (sym (ap (λ (c : Buffer). c.free) buffer) ∙ is))
       (λ p lp. parts p lp ∙ (h.content p lp ∙ ap (part_of p) (sym buffer)))
+      (subst (λ (c : Buffer). c.to_post < 2 ^ n) (sym buffer) h.owed)
 
 -- a fact about each buffer, from the one at hand and all others
 pub at_buffer : (F : ℕ → ℕ → Type 0) (n b me k : ℕ) → F me k → ((i x : ℕ) → i < n → x < b → (i ≡ me → x ≢ k) → F i x) → (i x : ℕ) → i < n → x < b → F i x

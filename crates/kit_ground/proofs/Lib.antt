@@ -8,11 +8,13 @@ pub mod Lists
 pub mod Stocks
 pub mod Fits
 pub mod SetFacts
+pub mod ReaderWords
 pub mod BufferSteps
 pub mod HoldSteps
 pub mod SetSteps
 pub mod OwnSteps
 pub mod FloorSteps
+pub mod DueSteps
 pub mod WordSteps
 pub mod LawSteps
 pub mod HeldMasks

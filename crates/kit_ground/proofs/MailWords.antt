@@ -1,5 +1,5 @@
 -- Mail words: which one a buffer goes by, and what its bits are among those of all buffers.
-use Rattle.std.proofs.Common.{◌≡◌, ◌≢◌, ℕ, ◌+◌, ◌-◌, ◌*◌, ◌/◌, ◌%◌, ◌^◌, ◌<◌, ◌≤◌, sym, ap, ◌∙◌, subst, arith}
+use Rattle.std.proofs.Common.{◌≡◌, ◌≢◌, ℕ, zero, suc, refl, ◌+◌, ◌-◌, ◌*◌, ◌/◌, ◌%◌, ◌^◌, ◌<◌, ◌≤◌, sym, ap, ◌∙◌, subst, arith}
 use Rattle.std.proofs.lemmas.Bool.{cases_lt}
 use Rattle.std.proofs.lemmas.Nat.{pow_pos}
 use Rattle.std.proofs.lemmas.Nat.Bits.{bit_at-lt, bit_at-zero, bit_at_cat_high, bit_at_cat_low}
@@ -7,6 +7,7 @@ use Rattle.std.specs.Int.{bit_at}
 use mathlib.Core.Logic.{⊎_elim}
 use Rattle.kit_ground.specs.Layout.{mail_words}
 use Rattle.kit_ground.specs.Steps.{mail_mask}
+use Rattle.kit_ground.proofs.Bits.{below_by_bits}
 
 pub mail_words_are : (b : ℕ) → mail_words b ≡ (b + 63) / 64
 unfolding mail_words
@@ -61,3 +62,23 @@ mask_else w mail x narrow apart = ⊎_elim
         (λ (lt : bit_at mail c < 1). let y : ℕ = bit_at mail c in let l : y < 1 = lt in let z : y ≡ 0 = omega arith in z)
         (λ (le : 1 ≤ bit_at mail c). let y : ℕ = bit_at mail c in let two : y < 2 = bit_at-lt mail c in let l : 1 ≤ y = le in let one : y ≡ 1 = omega arith in let small = narrow c one in absurd (omega arith))
         (cases_lt (bit_at mail c) 1)
+
+-- so it is a mask of buffers that there are, where the mail is of such
+pub mask_below : (w mail b : ℕ) → ((c : ℕ) → bit_at mail c ≡ 1 → (c < 64) × (64 * w + c < b)) → mail_mask w mail < 2 ^ b
+mask_below w mail b within = below_by_bits (mail_mask w mail) b (λ x above. no_bit (bit_at (mail_mask w mail) x) (bit_at-lt (mail_mask w mail) x) (λ on. ⊎_elim
+    (λ (lt : x < 64 * w). let z : bit_at (mail_mask w mail) x ≡ 0 = mask_else w mail x (λ c set. (within c set).0) (omega arith) in apart (bit_at (mail_mask w mail) x) z on)
+    (λ (le : 64 * w ≤ x).
+    let c : ℕ = x - 64 * w in
+    let split : 64 * w + c ≡ x = omega arith in
+    let set : bit_at mail c ≡ 1 = sym (mask_here w mail c) ∙ (ap (bit_at (mail_mask w mail)) split ∙ on) in
+    let inside = (within c set).1 in
+    absurd (omega arith))
+    (cases_lt x (64 * w))))
+  where
+    apart : (y : ℕ) → y ≡ 0 → y ≡ 1 → ⊥
+    apart y none one = omega arith
+
+    no_bit : (y : ℕ) → y < 2 → (y ≡ 1 → ⊥) → y ≡ 0
+    no_bit zero lt not = refl
+    no_bit (suc zero) lt not = absurd (not refl)
+    no_bit (suc (suc y)) lt not = absurd (omega arith)

@@ -55,6 +55,16 @@ own_register m o (Published c word) s a long ls shows = dite (ℕ_discrete s c.s
     (λ other. register_else m c (record { owner = o.number; slot = s }) word (λ _. other) ∙ (shows ∙ sym (get_or-set_other o.shown c.slot s word 0 other)))
 own_register m o _ s a long ls shows = shows
 
+-- where the stop word was set it stays set
+stop_stays : (m : Memory) (o : SeatState) (deed : Deed) → m Stop ≡ 1 → memory_after m o deed Stop ≡ 1
+stop_stays m o Stopped set = refl
+stop_stays m o _ set = set
+
+-- and where the seat ever set it
+own_stop : (m : Memory) (o : SeatState) (deed : Deed) → (0 < o.stops → m Stop ≡ 1) → 0 < (own_after deed o).stops → memory_after m o deed Stop ≡ 1
+own_stop m o Stopped set some = refl
+own_stop m o _ set some = set some
+
 pub own_fits_after : (m : Memory) (n b : ℕ) (o : SeatState) (deed : Deed) → Allowed o deed (m (address_of o deed)) → OwnFits m n b o.number o → OwnFits (memory_after m o deed) n b o.number (own_after deed o)
 own_fits_after m n b o deed a h = record {
   number = refl;
@@ -66,6 +76,7 @@ own_fits_after m n b o deed a h = record {
   shown = length-shown_after deed o ∙ h.shown;
   collects = length-collects_after deed o ∙ h.collects;
   shows = λ s ls. own_register m o deed s a h.shown ls (h.shows s ls);
+  stopped = own_stop m o deed h.stopped;
 }
 
 -- what another seat knows of itself
@@ -80,6 +91,7 @@ others_fit_after m n b j o q deed a apart h = record {
   shown = h.shown;
   collects = h.collects;
   shows = λ s ls. register_of_other m o deed (record { owner = j; slot = s }) a apart ∙ h.shows s ls;
+  stopped = λ some. stop_stays m o deed (h.stopped some);
 }
 
 -- the stop word is 0 or 1

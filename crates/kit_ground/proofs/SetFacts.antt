@@ -1,12 +1,14 @@
 -- What the rule of the sets tells.
 use Rattle.std.proofs.Common.{Bool, true, false, ◌≡◌, ℕ, ◌+◌, ◌-◌, ◌*◌, ◌%◌, ◌^◌, ◌<◌, ◌≤◌, List, refl, sym, ◌∙◌, subst, arith}
 use Rattle.std.proofs.lemmas.Nat.{ones-le}
+use Rattle.std.specs.Prelude.{slice_index}
 use Rattle.std.specs.Int.{bit_at}
 use Rattle.std.specs.Int.Count.{ones}
 use Rattle.kit_ground.specs.declared.address.Address.TheVariants.{Mail, Count}
 use Rattle.kit_ground.specs.declared.place.SeatBuffers.{SeatBuffers}
 use Rattle.kit_ground.specs.Memory.{Memory}
-use Rattle.kit_ground.specs.Sets.{Pool, buffer_at, due, to_be_posted, posted, holding, sum_to}
+use Rattle.kit_ground.specs.Sets.{Pool, buffer_at, due, stock_at, to_be_posted, posted, holding, sum_to}
+use Rattle.kit_ground.proofs.Bits.{none_by_bits}
 use Rattle.kit_ground.proofs.Fits.{due_is}
 use Rattle.kit_ground.proofs.MailWords.{bit_of, word_of}
 use Rattle.kit_ground.proofs.Sums.{sum_none, sum_at_most, sum_has}
@@ -83,6 +85,16 @@ module _ (m : Memory) (stocks : List SeatBuffers) (n b : ℕ) (h : Pool m stocks
     -- nor does a release of one who is counted
     pub release_fits : n ≤ 16 → (j : ℕ) → j < n → due m stocks i k j ≡ 1 → (m (Count i k) + (2 ^ 64 - 1)) % 2 ^ 64 ≡ m (Count i k) - 1
     release_fits few j lj one = let a = count_above j lj one in let most = count_small in omega arith
+
+  -- who is in no set of any buffer of i holds none of them
+  pub none_held : (i : ℕ) → i < n → (j : ℕ) → j < n → ((k : ℕ) → k < b → due m stocks i k j ≡ 0) → slice_index (stock_at stocks j).holds i ≡ 0
+  none_held i li j lj none = none_by_bits (slice_index (stock_at stocks j).holds i) b (h.held j i lj li)
+      (λ k lk. (none_left (due m stocks i k j) (to_be_posted m stocks i k j) (posted m stocks i k j) (holding m stocks i k j) (due_is m stocks i k j) (none k lk)).2)
+
+  -- a buffer for which nobody is in a set is to be posted to nobody
+  pub none_owed : (i k : ℕ) → i < n → k < b → ((j : ℕ) → j < n → due m stocks i k j ≡ 0) → (buffer_at m stocks i k).to_post ≡ 0
+  none_owed i k li lk none = none_by_bits (buffer_at m stocks i k).to_post n (h.owed i k li lk)
+      (λ j lj. (none_left (due m stocks i k j) (to_be_posted m stocks i k j) (posted m stocks i k j) (holding m stocks i k j) (due_is m stocks i k j) (none j lj)).0)
 
   -- each bit of a mail word is of a buffer that there is
   pub mail_within : (j i w c : ℕ) → j < n → i < n → bit_at (m (Mail j i w)) c ≡ 1 → (c < 64) × (64 * w + c < b)

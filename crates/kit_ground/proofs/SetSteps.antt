@@ -31,6 +31,8 @@ register_aside m stocks n b r v h = record {
   free = h.free;
   content = h.content;
   narrow = h.narrow;
+  held = h.held;
+  owed = h.owed;
 }
 
 stop_aside : (m : Memory) (stocks : List SeatBuffers) (n b v : ℕ) → Pool m stocks n b → Pool (with_word m Stop v) stocks n b
@@ -44,6 +46,8 @@ stop_aside m stocks n b v h = record {
   free = h.free;
   content = h.content;
   narrow = h.narrow;
+  held = h.held;
+  owed = h.owed;
 }
 
 -- the seat `me` has o

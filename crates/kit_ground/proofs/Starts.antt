@@ -1,6 +1,7 @@
 -- The floor's rule holds at the opening.
-use Rattle.std.proofs.Common.{◌≡◌, ℕ, zero, suc, ◌+◌, ◌*◌, ◌%◌, ◌<◌, ◌≤◌, List, length, map, replicate, refl, sym, ap, ◌∙◌, subst, arith}
+use Rattle.std.proofs.Common.{◌≡◌, ℕ, zero, suc, ◌+◌, ◌*◌, ◌%◌, ◌^◌, ◌<◌, ◌≤◌, List, length, map, replicate, refl, sym, ap, ◌∙◌, subst, arith}
 use Rattle.std.proofs.lemmas.List.{length-replicate, length-map}
+use Rattle.std.proofs.lemmas.Nat.{pow_pos}
 use Rattle.std.proofs.lemmas.Nat.Bits.{bit_at-zero}
 use Rattle.std.specs.Prelude.{slice_index}
 use Rattle.std.specs.Int.{bit_at}
@@ -51,6 +52,7 @@ module _ {V : Type 0} (first : ℕ → V) (n b : ℕ) where
     shown = length-replicate {A = ℕ} 13 0;
     collects = length-replicate {A = ℕ} (mail_words b * n) 0;
     shows = λ s ls. sym (same_everywhere 13 s 0);
+    stopped = λ some. absurd (omega (arith, some));
   }
 
   abbrev stock : SeatBuffers
@@ -84,6 +86,8 @@ module _ {V : Type 0} (first : ℕ → V) (n b : ℕ) where
     free = λ i k li lk is. refl;
     content = λ i k p li lk lp. sym (ap (part_of p) (buffer_at_first i k li) ∙ untouched_part p);
     narrow = λ j i w k lj li on. let z : 0 ≡ 1 = sym (bit_at-zero k) ∙ on in absurd (omega arith);
+    held = λ j i lj li. subst (λ (x : ℕ). x < 2 ^ b) (sym (ap (λ (s : SeatBuffers). slice_index s.holds i) (stock_from 0 n j lj) ∙ same_everywhere n i 0)) (pow_pos b);
+    owed = λ i k li lk. subst (λ (c : Buffer). c.to_post < 2 ^ n) (sym (buffer_at_first i k li)) (pow_pos n);
   }
 
   pub floored_at_first : n ≤ 16 → b ≤ 1024 → FloorHolds b zero_memory (places_at_first first n b)

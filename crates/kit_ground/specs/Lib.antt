@@ -7,4 +7,5 @@ pub mod Guests
 pub mod Words
 pub mod Floors
 pub mod Coming
+pub mod Joining
 pub mod Laws

@@ -25,6 +25,8 @@ pub record OwnFits (m : Memory) (n b j : ℕ) (o : SeatState) : Type 0 where
   pub collects : length o.collects ≡ mail_words b * n
   -- its registers show what it last published
   pub shows : (s : ℕ) → s < 13 → m (Register (record { owner = j; slot = s })) ≡ slice_index o.shown s
+  -- where it ever set the stop word, that is set
+  pub stopped : 0 < o.stops → m Stop ≡ 1
 
 -- what a client's rule asks of the memory and the places of all federates, and what it asks of a guest's place beside them.
 -- A guest takes looks alone, so the first does not speak of guests.

@@ -1,5 +1,5 @@
 -- The three sets of federates of each buffer: to be posted, posted, and holding. Its count is the number of those in them.
-use Rattle.std.specs.Prelude.{◌≡◌, ℕ, zero, suc, ◌+◌, ◌*◌, ◌/◌, ◌%◌, ◌<◌, ◌≤◌, true, List, [], length, slice_index, slice_index_or}
+use Rattle.std.specs.Prelude.{◌≡◌, ℕ, zero, suc, ◌+◌, ◌*◌, ◌/◌, ◌%◌, ◌^◌, ◌<◌, ◌≤◌, true, List, [], length, slice_index, slice_index_or}
 use Rattle.std.specs.Int.{bit_at}
 use Rattle.kit_ground.specs.declared.address.Address.TheVariants.{Mail, Count, Part}
 use Rattle.kit_ground.specs.declared.place.Buffer.{Buffer}
@@ -49,3 +49,6 @@ module _ (m : Memory) (stocks : List SeatBuffers) where
     pub content : (i k p : ℕ) → i < n → k < b → p < 2 → m (Part i k p) ≡ part_of p (buffer_at i k)
     -- each bit in the mail is of a buffer that there is
     pub narrow : (j i w k : ℕ) → j < n → i < n → bit_at (m (Mail j i w)) k ≡ 1 → (k < 64) × (64 * w + k < b)
+    -- what a seat holds are buffers that there are, and what it is still to post is for federates that there are
+    pub held : (j i : ℕ) → j < n → i < n → slice_index (stock_at stocks j).holds i < 2 ^ b
+    pub owed : (i k : ℕ) → i < n → k < b → (buffer_at i k).to_post < 2 ^ n

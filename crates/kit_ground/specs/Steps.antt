@@ -180,6 +180,26 @@ pub record IsStep (o : SeatState) (deed : Deed) (m now : Memory) : Type 0 where
   pub allowed : Allowed o deed (m (address_of o deed))
   pub stores : now ≡ with_word m (address_of o deed) (becomes deed (m (address_of o deed)))
 
+-- a buffer that is posted has a mail word
+abbrev pub HasMailWord : Deed → Type 0
+HasMailWord (PostedTo k j) = k < 1024
+HasMailWord _ = Unit {0}
+
+-- what a step did, with the word that it found
+abbrev pub with_found : Deed → ℕ → Deed
+with_found (Looked r _) found = Looked r found
+with_found (SawStop _) found = SawStop (found == 1)
+with_found (SawFree k _) found = SawFree k (found == 0)
+with_found (Collected i w _) found = Collected i w found
+with_found (ReadPart i k p _) found = ReadPart i k p found
+with_found deed found = deed
+
+-- the seat of one federate, on one floor
+pub record IsSameSeat {V : Type 0} (p q : Place V) : Type 0 where
+  pub number : q.own.number ≡ p.own.number
+  pub federates : q.own.federates ≡ p.own.federates
+  pub buffers : q.own.buffers ≡ p.own.buffers
+
 -- what a seat knows and its client's view, after a step
 abbrev pub place_after : {V : Type 0} → (Deed → Place V → V) → Deed → Place V → Place V
 place_after next deed p = record { own = own_after deed p.own; client = next deed p }

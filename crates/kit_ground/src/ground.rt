@@ -34,7 +34,7 @@ pub trait Event<V> {
 /// shows that the client's rule holds after the step (`rule`). It is told that both rules held at
 /// the step, with the word that was found (`told`), so whatever follows from that.
 pub trait Ground {
-    ghost use Rattle.std.specs.Prelude.{◌≡◌, ◌≢◌, ℕ, ◌<◌, ◌/◌, true, ◌==◌, slice_index};
+    ghost use Rattle.std.specs.Prelude.{◌≡◌, ◌≢◌, ℕ, ◌<◌, ◌≤◌, ◌/◌, true, ◌==◌, slice_index};
     ghost use Rattle.std.specs.Int.{bit_at};
     ghost use Rattle.kit_ground.specs.declared.address.Address.TheVariants.{Register, Stop, Mail, Count, Part};
     ghost use Rattle.kit_ground.specs.declared.place.Deed.{Deed};
@@ -42,7 +42,7 @@ pub trait Ground {
     ghost use Rattle.kit_ground.specs.declared.place.Place.{Place};
     ghost use Rattle.kit_ground.specs.Layout.{mail_words};
     ghost use Rattle.kit_ground.specs.Rules.{Keeps, WasFound};
-    ghost use Rattle.kit_ground.specs.Steps.{IsReg, IsChargeable, IsMask, place_after, buffer_of};
+    ghost use Rattle.kit_ground.specs.Steps.{IsReg, IsChargeable, IsMask, IsSameSeat, place_after, buffer_of};
 
     type Under: Protocol;
 
@@ -195,4 +195,9 @@ pub trait Ground {
     ghost came_here: { (g : Self) → came g g };
 
     ghost came_on: { (g h k : Self) → came g h → came h k → came g k };
+
+    // It is the seat of one federate, and its steps are counted on.
+    ghost came_same: { (g h : Self) → came g h → IsSameSeat (place g) (place h) };
+
+    ghost came_later: { (g h : Self) → came g h → (place g).own.steps ≤ (place h).own.steps };
 }

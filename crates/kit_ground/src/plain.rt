@@ -1,14 +1,16 @@
-ghost use Rattle.std.specs.Prelude.{◌≡◌, ◌<◌, ◌≤◌, ◌/◌, ◌%◌, ◌^◌, [], ◌∷◌, ◌++◌, bit_or, replicate, IfOk};
-ghost use Rattle.kit_ground.specs.Floors.{map_at};
+//! A floor that one value has whole.
+ghost use Rattle.std.specs.Prelude.{◌≡◌, ◌≤◌, replicate, IfOk};
 ghost use Rattle.kit_ground.specs.Layout.{size_of};
-ghost use Rattle.kit_ground.specs.Steps.{place_after};
 
-use crate::{Address, Deed, Event, Ground, Place, Protocol, Reg};
-use kit_known::{Known, Reads};
+mod notes;
+mod seat;
+
+use crate::{Address, Deed, Event, Place, Protocol};
+use kit_known::Known;
+use notes::{counted, first_places, no_steps, noted};
 use std::alloc::{AllocError, Global};
 use std::collections::LinkedList;
-use std::marker::{Model, PhantomData};
-use std::snapshot::Snapshot;
+use std::marker::Model;
 
 /// A floor that one value has whole, and the seat of one of its federates.
 ///
@@ -19,7 +21,7 @@ pub struct PlainFloor<P: Protocol> {
     federates: u8,
     buffers: u16,
     seated: u8,
-    opening: Snapshot<P::Opening>,
+    opening: Known<P::Opening>,
     places: Known<LinkedList<Place<P::View>>>,
     steps: Known<LinkedList<u64>>,
 }
@@ -36,13 +38,12 @@ impl<P: Protocol> Model for PlainFloor<P> {
 }
 
 impl<P: Protocol> PlainFloor<P> {
-    ghost use Rattle.std.specs.Prelude.{◌≡◌, ◌≤◌, ◌<◌, true, length, IfOk};
+    ghost use Rattle.std.specs.Prelude.{◌≡◌, ◌≤◌, ◌<◌, ℕ, true, length, IfOk};
     ghost use Rattle.kit_ground.specs.Coming.{AreSteps, IsOneStep};
-    ghost use Rattle.kit_ground.specs.Floors.{RulesHold, map_at, memory, new_floor, place_of, floor_after};
+    ghost use Rattle.kit_ground.specs.Floors.{RulesHold, memory, new_floor, place_of, floor_after};
     ghost use Rattle.kit_ground.specs.Layout.{index_of, is_there};
-    ghost use Rattle.kit_ground.specs.Memory.{with_word};
-    ghost use Rattle.kit_ground.specs.Rules.{zero_memory, places_at_first};
-    ghost use Rattle.kit_ground.specs.Steps.{Allowed, place_after, address_of, becomes};
+    ghost use Rattle.kit_ground.specs.Rules.{Keeps, WasFound, zero_memory, places_at_first};
+    ghost use Rattle.kit_ground.specs.Steps.{Allowed, address_of, place_after, with_found};
 
     /// A floor whose words are 0, with the client's opening. The first federate is seated.
     ///
@@ -51,36 +52,31 @@ impl<P: Protocol> PlainFloor<P> {
         alloc: Global,
         federates: u8,
         buffers: u16,
-        opening: &P::Opening,
+        opening: &Known<P::Opening>,
     ) -> Result<PlainFloor<P>, AllocError>
         requires federates { (1 ≤ federates) × (federates ≤ 16) }
-        requires buffers { buffers ≤ 1024 }
-        requires rule { P.rule.holds zero_memory (places_at_first (P.first opening.now) federates buffers) }
-        ensures { IfOk result (λ f. f ≡ new_floor P.first opening.now federates buffers) }
+        requires buffers { (1 ≤ buffers) × (buffers ≤ 1024) }
+        requires rule { P.rule.holds zero_memory (places_at_first (P.first opening.now.value) federates buffers) }
+        ensures { IfOk result (λ f. f ≡ new_floor P.first opening.now.value federates buffers) }
     {
         let words = zeros(alloc, federates, buffers)?;
-        let laying = Laying {
-            opening: Snapshot::of(opening),
-            federates,
-            buffers,
-        };
-        let places = Known::of::<Laying<P::Opening>, FirstPlaces<P>>(&laying);
-        let steps = Known::of::<(), NoSteps>(&());
+        let places = first_places::<P>(opening, federates, buffers);
         Ok(PlainFloor {
             words,
             federates,
             buffers,
             seated: 0,
-            opening: Snapshot::of(opening),
+            opening: opening.again(),
             places,
-            steps,
+            steps: no_steps(),
         })
     }
 
     /// Seats another federate: the steps that follow are its steps.
     pub fn seat(&mut self, federate: u8)
         requires { federate < length self.old.places }
-        ensures { self.new ≡ record self.old { seated = federate } }
+        ensures seated { self.new ≡ record self.old { seated = federate } }
+        ensures ruled { RulesHold P.rule self.new }
     {
         self.seated = federate;
     }
@@ -130,46 +126,23 @@ impl<P: Protocol> PlainFloor<P> {
         self.steps = counted(&self.steps, me);
     }
 
-    /// A step of the seat that is seated which found this word at the address.
-    fn step<E: Event<P::View>>(&mut self, address: Address, found: u64, word: u64, deed: Deed)
-        requires found { found ≡ memory self.old address }
-        requires address { address ≡ address_of (place_of P.first self.old).own deed }
-        requires word { word ≡ becomes deed found }
-        requires allowed { Allowed (place_of P.first self.old).own deed found }
-        requires kept { P.rule.holds (with_word (memory self.old) address word) (map_at (place_after E.next deed) self.old.seated self.old.places) }
+    /// A step of the seat that is seated, whatever word it finds. It gives that word.
+    fn step<E: Event<P::View>>(&mut self, about: Deed) -> u64
+        requires allowed { (found : ℕ) → Allowed (place_of P.first self.old).own (with_found about found) found }
+        requires keeps { let p = place_of P.first self.old in Keeps P.rule E.next p (address_of p.own about) (with_found about) }
         ensures came { AreSteps P.first self.old self.new }
-        ensures did { IsOneStep P.first self.old deed self.new }
-        ensures place { place_of P.first self.new ≡ place_after E.next deed (place_of P.first self.old) }
+        ensures did { IsOneStep P.first self.old (with_found about result) self.new }
+        ensures place { place_of P.first self.new ≡ place_after E.next (with_found about result) (place_of P.first self.old) }
+        ensures told { let p = place_of P.first self.old in WasFound P.rule p (address_of p.own about) result }
     {
-        self.ruled();
+        let (me, _, _) = self.sizes();
+        let address = about.address(me);
+        let found = self.load(address);
+        let deed = about.finding(found);
         let at = self.index(address);
-        self.act::<E>(at, word, deed);
+        self.act::<E>(at, deed.stored(found), deed);
+        found
     }
-}
-
-#[derive(Drop)]
-struct Laying<O> {
-    opening: Snapshot<O>,
-    federates: u8,
-    buffers: u16,
-}
-
-struct FirstPlaces<P> {
-    of: PhantomData<P>,
-}
-
-impl<P: Protocol> Reads<Laying<P::Opening>, LinkedList<Place<P::View>>> for FirstPlaces<P> {
-    ghost use Rattle.kit_ground.specs.Rules.{places_at_first};
-
-    ghost read = { λ x. places_at_first (P.first x.opening.value) x.federates x.buffers };
-}
-
-struct NoSteps;
-
-impl Reads<(), LinkedList<u64>> for NoSteps {
-    ghost use Rattle.std.specs.Prelude.{[]};
-
-    ghost read = { λ _. [] };
 }
 
 #[tactic(auto, unfolding(crate::specs::Layout::mail_words))]
@@ -185,231 +158,6 @@ fn zeros(alloc: Global, federates: u8, buffers: u16) -> Result<Vec<u64>, AllocEr
     let m = (b + 63) / 64;
     words.resize(13 * n + 1 + m * (n * n) + b * n + b * n * 2, 0)?;
     Ok(words)
-}
-
-/// The bit of a buffer in its mail word.
-pub fn mail_bit(buffer: u16) -> u64
-    ensures { result ≡ 2 ^ (buffer % 64) }
-{
-    1 << (buffer % 64)
-}
-
-/// The number of the mail word that has the bit of this buffer.
-pub fn mail_word(buffer: u16) -> u8
-    requires { buffer < 1024 }
-    ensures { result ≡ buffer / 64 }
-{
-    (buffer / 64) as u8
-}
-
-/// A mail word with the bit of this buffer.
-fn with_bit(mail: u64, buffer: u16) -> u64
-    ensures { result ≡ bit_or mail (2 ^ (buffer % 64)) }
-{
-    mail | mail_bit(buffer)
-}
-
-/// What a step is noted on.
-#[derive(Drop)]
-struct Noting<V> {
-    places: Known<LinkedList<Place<V>>>,
-    me: u8,
-    deed: Deed,
-}
-
-struct Notes<E> {
-    of: PhantomData<E>,
-}
-
-impl<V, E: Event<V>> Reads<Noting<V>, LinkedList<Place<V>>> for Notes<E> {
-    ghost use Rattle.kit_ground.specs.Floors.{map_at};
-    ghost use Rattle.kit_ground.specs.Steps.{place_after};
-
-    ghost read = { λ x. map_at (place_after E.next x.deed) x.me x.places.value };
-}
-
-struct Same;
-
-impl<T> Reads<Known<T>, T> for Same {
-    ghost read = { λ x. x.value };
-}
-
-fn again<T>(known: &Known<T>) -> Known<T>
-    ensures { result.value ≡ known.now.value }
-{
-    Known::of::<Known<T>, Same>(known)
-}
-
-/// The places after a step of one seat.
-fn noted<V, E: Event<V>>(
-    places: &Known<LinkedList<Place<V>>>,
-    me: u8,
-    deed: Deed,
-) -> Known<LinkedList<Place<V>>>
-    ensures { result.value ≡ map_at (place_after E.next deed) me places.now.value }
-{
-    let noting = Noting {
-        places: again(places),
-        me,
-        deed,
-    };
-    Known::of::<Noting<V>, Notes<E>>(&noting)
-}
-
-struct OneMore;
-
-impl Reads<(Known<LinkedList<u64>>, u8), LinkedList<u64>> for OneMore {
-    ghost use Rattle.std.specs.Prelude.{[], ◌∷◌, ◌++◌};
-
-    ghost read = { λ x. x.0.value ++ x.1 ∷ [] };
-}
-
-/// One step more, of this seat.
-fn counted(steps: &Known<LinkedList<u64>>, me: u8) -> Known<LinkedList<u64>>
-    ensures { result.value ≡ steps.now.value ++ me ∷ [] }
-{
-    let both = (again(steps), me);
-    Known::of::<(Known<LinkedList<u64>>, u8), OneMore>(&both)
-}
-
-impl<P: Protocol> Ground for PlainFloor<P> {
-    ghost use Rattle.kit_ground.specs.Coming.{AreSteps, IsOneStep, came_here, came_on};
-    ghost use Rattle.kit_ground.specs.Floors.{place_of};
-
-    type Under = P;
-
-    ghost place = { λ f. place_of P.first f };
-
-    ghost did = { IsOneStep P.first };
-
-    ghost came = { AreSteps P.first };
-
-    fn me(&self) -> u8 {
-        self.sizes().0
-    }
-
-    fn federates(&self) -> u8 {
-        self.sizes().1
-    }
-
-    fn buffers(&self) -> u16 {
-        self.sizes().2
-    }
-
-    fn look<E: Event<P::View>>(&mut self, reg: Reg) -> u64 {
-        self.ruled();
-        let address = Address::Register(reg);
-        let found = self.load(address);
-        self.step::<E>(address, found, found, Deed::Looked { reg, word: found });
-        found
-    }
-
-    fn publish<E: Event<P::View>>(&mut self, reg: Reg, word: u64) {
-        self.ruled();
-        let address = Address::Register(reg);
-        let found = self.load(address);
-        self.step::<E>(address, found, word, Deed::Published { reg, word });
-    }
-
-    fn stop<E: Event<P::View>>(&mut self) {
-        self.ruled();
-        let found = self.load(Address::Stop);
-        self.step::<E>(Address::Stop, found, 1, Deed::Stopped);
-    }
-
-    fn stopped<E: Event<P::View>>(&mut self) -> bool {
-        self.ruled();
-        let found = self.load(Address::Stop);
-        let set = found == 1;
-        self.step::<E>(Address::Stop, found, found, Deed::SawStop { set });
-        set
-    }
-
-    fn look_free<E: Event<P::View>>(&mut self, buffer: u16) -> bool {
-        self.ruled();
-        let owner = self.me();
-        let address = Address::Count { owner, buffer };
-        let found = self.load(address);
-        let free = found == 0;
-        self.step::<E>(address, found, found, Deed::SawFree { buffer, free });
-        free
-    }
-
-    fn write_part<E: Event<P::View>>(&mut self, buffer: u16, part: u8, word: u64) {
-        self.ruled();
-        let owner = self.me();
-        let address = Address::Part {
-            owner,
-            buffer,
-            part,
-        };
-        let found = self.load(address);
-        self.step::<E>(address, found, word, Deed::Wrote { buffer, part, word });
-    }
-
-    fn charge<E: Event<P::View>>(&mut self, buffer: u16, mask: u16) {
-        self.ruled();
-        let owner = self.me();
-        let address = Address::Count { owner, buffer };
-        let found = self.load(address);
-        let count = found.wrapping_add(u64::from(mask.count_ones()));
-        self.step::<E>(address, found, count, Deed::Charged { buffer, mask });
-    }
-
-    fn post<E: Event<P::View>>(&mut self, buffer: u16, to: u8) {
-        self.ruled();
-        let from = self.me();
-        let address = Address::Mail {
-            to,
-            from,
-            word: mail_word(buffer),
-        };
-        let found = self.load(address);
-        let mail = with_bit(found, buffer);
-        self.step::<E>(address, found, mail, Deed::PostedTo { buffer, to });
-    }
-
-    fn collect<E: Event<P::View>>(&mut self, from: u8, word: u8) -> u64 {
-        self.ruled();
-        let to = self.me();
-        let address = Address::Mail { to, from, word };
-        let mail = self.load(address);
-        self.step::<E>(address, mail, 0, Deed::Collected { from, word, mail });
-        mail
-    }
-
-    fn read_part<E: Event<P::View>>(&mut self, from: u8, buffer: u16, part: u8) -> u64 {
-        self.ruled();
-        let address = Address::Part {
-            owner: from,
-            buffer,
-            part,
-        };
-        let word = self.load(address);
-        let deed = Deed::ReadPart {
-            from,
-            buffer,
-            part,
-            word,
-        };
-        self.step::<E>(address, word, word, deed);
-        word
-    }
-
-    fn release<E: Event<P::View>>(&mut self, from: u8, buffer: u16) {
-        self.ruled();
-        let address = Address::Count {
-            owner: from,
-            buffer,
-        };
-        let found = self.load(address);
-        let count = found.wrapping_sub(1);
-        self.step::<E>(address, found, count, Deed::Released { from, buffer });
-    }
-
-    ghost came_here = { came_here P.first };
-
-    ghost came_on = { came_on P.first };
 }
 
 #[cfg(test)]

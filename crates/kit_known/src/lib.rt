@@ -23,6 +23,20 @@ impl<T> Model for Known<T> {
     ghost also_owns = { λ _. ftrue };
 }
 
+/// The value itself.
+struct Itself;
+
+impl<T> Reads<T, T> for Itself {
+    ghost read = { λ x. x };
+}
+
+/// What is known already.
+struct Same;
+
+impl<T> Reads<Known<T>, T> for Same {
+    ghost read = { λ x. x.value };
+}
+
 impl<T> Known<T> {
     /// The value that `M` reads off this one.
     pub fn of<X, M: Reads<X, T>>(x: &X) -> Known<T>
@@ -32,6 +46,20 @@ impl<T> Known<T> {
         Known {
             marker: PhantomData,
         }
+    }
+
+    /// This value.
+    pub fn new(value: &T) -> Known<T>
+        ensures { result.value ≡ value.now }
+    {
+        Known::of::<T, Itself>(value)
+    }
+
+    /// The same value once more.
+    pub fn again(&self) -> Known<T>
+        ensures { result.value ≡ self.now.value }
+    {
+        Known::of::<Known<T>, Same>(self)
     }
 }
 

@@ -7,7 +7,8 @@ mod rounds;
 
 use kit_courier::Couriers;
 use kit_ground::PlainFloor;
-use rounds::{BUFFERS, Came, FEDERATES, send_round};
+use kit_known::Known;
+use rounds::{BUFFERS, FEDERATES, Tally, send_round};
 use std::process::ExitCode;
 use std::{env, io};
 
@@ -23,10 +24,11 @@ fn main(rt: HostRuntime) -> ExitCode {
     let Ok(Some(turns)) = turns_of(&rt) else {
         return ExitCode::FAILURE;
     };
-    let Ok(mut floor) = PlainFloor::<Couriers>::new(rt.alloc(), FEDERATES, BUFFERS, &()) else {
+    let opening = Known::new(&FEDERATES);
+    let Ok(mut floor) = PlainFloor::<Couriers>::new(rt.alloc(), FEDERATES, BUFFERS, &opening) else {
         return ExitCode::FAILURE;
     };
-    let Came { letters, sum } = send_round(&mut floor, turns);
+    let Tally { letters, sum } = send_round(&mut floor, turns);
     let _ = println!(rt; "{letters} letters, sum {sum}");
     ExitCode::SUCCESS
 }

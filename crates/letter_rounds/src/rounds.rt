@@ -17,30 +17,25 @@ fn pass(
     letter: Letter,
 ) -> Option<Letter>
     requires quiet { IsQuiet floor.old }
-    requires from { from < 16 }
-    requires to { to < 16 }
+    requires from { from < FEDERATES }
+    requires to { to < FEDERATES }
     requires other { from ≢ to }
-    requires buffer { buffer < 4 }
+    requires buffer { buffer < BUFFERS }
     ensures quiet { IsQuiet floor.new }
 {
     floor.seat(from);
-    floor.ruled();
     send(floor, buffer, to, letter);
-    floor.ruled();
     floor.seat(to);
-    floor.ruled();
-    let came = receive(floor, from, 0);
-    floor.ruled();
-    came
+    receive(floor, from, 0)
 }
 
-/// What came: how many letters, and the sum of their words modulo 2^64.
-pub struct Came {
+/// How many letters came, and the sum of their words modulo 2^64.
+pub struct Tally {
     pub letters: u64,
     pub sum: u64,
 }
 
-impl Came {
+impl Tally {
     fn note(&mut self, letter: Letter) {
         self.letters = self.letters.wrapping_add(1);
         self.sum = self.sum.wrapping_add(letter.head).wrapping_add(letter.body);
@@ -48,19 +43,23 @@ impl Came {
 }
 
 /// Letters go from each federate in turn to the others in turn, through its buffers in turn.
-pub fn send_round(floor: &mut PlainFloor<Couriers>, turns: u64) -> Came
+pub fn send_round(floor: &mut PlainFloor<Couriers>, turns: u64) -> Tally
     requires { IsQuiet floor.old }
     ensures { IsQuiet floor.new }
 {
-    let mut came = Came { letters: 0, sum: 0 };
+    let federates = u64::from(FEDERATES);
+    let buffers = u64::from(BUFFERS);
+    let mut came = Tally { letters: 0, sum: 0 };
     for turn in 0..turns {
-        let from = (turn % 16) as u8;
-        let to = ((turn % 16 + 1 + turn / 16 % 15) % 16) as u8;
+        let from = turn % federates;
+        let on = 1 + turn / federates % (federates - 1);
+        let to = (from + on) % federates;
+        let buffer = (turn / federates % buffers) as u16;
         let letter = Letter {
             head: turn,
             body: turn / 3,
         };
-        if let Some(got) = pass(floor, from, to, (turn / 16 % 4) as u16, letter) {
+        if let Some(got) = pass(floor, from as u8, to as u8, buffer, letter) {
             came.note(got);
         }
     }

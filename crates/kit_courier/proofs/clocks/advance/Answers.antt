@@ -2,8 +2,9 @@ use Rattle.std.proofs.Common.{◌≡◌, ◌+◌, ◌<◌, ◌≤◌, ℕ, List,
 use Rattle.std.specs.Prelude.{slice_index}
 use Rattle.kit_ground.specs.declared.place.Place.{Place}
 use Rattle.kit_courier.specs.declared.view.CourierView.{CourierView}
+use Rattle.kit_courier.specs.Calls.{AdvanceLeaves}
 use Rattle.kit_courier.proofs.Looking.{learns, shows}
-use Rattle.kit_courier.proofs.Looks.{HasSearched, found_lower, found_no_lower, own_skipped, shown_here}
+use Rattle.kit_courier.proofs.Looks.{HasSearched, found_lower, found_no_lower, own_skipped, paced_whole, shown_here, shows_leave}
 use Rattle.kit_courier.proofs.clocks.advance.Goals as goal
 use Rattle.kit_courier.proofs.clocks.advance.Goals.{then-federate-me+then-found-least, then-federate-me+else-found-least, else-federate-me}
 
@@ -15,7 +16,11 @@ goes_on : (p : P) (n low low' : ℕ) (q r r' : P) → HasSearched p n low q → 
 goes_on p n low low' q r r' h at same less = subst (λ (x : ℕ × P). HasSearched p n x.0 x.1) (λ i. (sym less i, sym (same ∙ at) i)) h
 
 pub look-found-requires-clause-rule : goal.look-found-requires-clause-rule
-look-found-requires-clause-rule g c = learns _ _
+look-found-requires-clause-rule g c =
+    let h = c.loop-federate.invariant.1 in
+    let all = c.federates-federate-end.ensures in
+    let many = h.seat.federates in
+    learns _ _ (let l = c.loop-federate-test.true in omega arith)
 
 pub loop-federate-preserved : goal.loop-federate-preserved
 loop-federate-preserved g c =
@@ -53,3 +58,20 @@ publish-requires-clause-rule g c =
 pub returns-clause-shown : goal.returns-clause-shown
 returns-clause-shown g c =
     ap (λ (q : P). slice_index q.own.shown 12) c.publish.ensures.place ∙ shown_here _ _ _ c.me-me.result c.args.to c.publish.ensures.told.1
+
+pub returns-clause-leaves : goal.returns-clause-leaves
+returns-clause-leaves g c =
+    let p : P = g.G.Ground.place c.args.seat.now in
+    subst (AdvanceLeaves p) (sym c.publish.ensures.place) (shows_leave p _ _ _ c.loop-federate.invariant.1 c.me-me.result c.args.to)
+
+pub returns-clause-steps : goal.returns-clause-steps
+returns-clause-steps g c =
+    let p : P = g.G.Ground.place c.args.seat.now in
+    let all = c.federates-federate-end.ensures in
+    ap (λ (q : P). q.own.steps) c.publish.ensures.place ∙ (paced_whole p _ _ _ c.loop-federate.invariant.1 c.me-me.result c.args.to c.publish.ensures.told.1 (omega arith)).0
+
+pub returns-clause-looks : goal.returns-clause-looks
+returns-clause-looks g c =
+    let p : P = g.G.Ground.place c.args.seat.now in
+    let all = c.federates-federate-end.ensures in
+    ap (λ (q : P). q.own.looks + 1) c.publish.ensures.place ∙ (paced_whole p _ _ _ c.loop-federate.invariant.1 c.me-me.result c.args.to c.publish.ensures.told.1 (omega arith)).1

@@ -2,7 +2,8 @@ use Rattle.std.proofs.Common.{rules, ◌≡◌, ℕ, ◌<◌, sym, ap, ◌∙◌
 use Rattle.std.specs.Prelude.{slice_index, bit_or}
 use Rattle.std.specs.Int.{bit_at}
 use Rattle.kit_ground.specs.declared.place.Place.{Place}
-use Rattle.kit_ground.specs.Coming.{AreSteps, came_on}
+use Rattle.kit_ground.specs.Coming.{AreSteps}
+use Rattle.kit_ground.specs.Joining.{came_on}
 use Rattle.kit_ground.specs.Floors.{Floor, place_of, new_floor}
 use Rattle.kit_ground.specs.declared.place.Deed.TheVariants.{Collected}
 use Rattle.kit_ground.specs.Rules.{own_at_first}
@@ -36,52 +37,52 @@ sizes p is = (ap (λ (x : P). x.own.number) is, ap (λ (x : P). x.own.federates)
 
 pub collect-mail-requires-clause-from : goal.collect-mail-requires-clause-from
 collect-mail-requires-clause-from g c =
-    let is = ap (place_of first) c.seat.ensures ∙ second _ _ _ _ _ _ _ c.in_ok-floor.ensures c.look_free.ensures.came c.write_part.ensures.came c.write_part-2.ensures.came c.charge.ensures.came c.post.ensures.came c.look_free-2.ensures.came in
+    let is = ap (place_of first) c.seat.ensures.seated ∙ second _ _ _ _ _ _ _ c.in_ok-floor.ensures c.look_free.ensures.came c.write_part.ensures.came c.write_part-2.ensures.came c.charge.ensures.came c.post.ensures.came c.look_free-2.ensures.came in
     let n = (sizes _ is).1 in omega (arith, n)
 
 pub collect-mail-requires-clause-other : goal.collect-mail-requires-clause-other
 collect-mail-requires-clause-other g c =
-    let is = ap (place_of first) c.seat.ensures ∙ second _ _ _ _ _ _ _ c.in_ok-floor.ensures c.look_free.ensures.came c.write_part.ensures.came c.write_part-2.ensures.came c.charge.ensures.came c.post.ensures.came c.look_free-2.ensures.came in
+    let is = ap (place_of first) c.seat.ensures.seated ∙ second _ _ _ _ _ _ _ c.in_ok-floor.ensures c.look_free.ensures.came c.write_part.ensures.came c.write_part-2.ensures.came c.charge.ensures.came c.post.ensures.came c.look_free-2.ensures.came in
     let n = (sizes _ is).0 in λ e. omega (arith, n, e)
 
 pub collect-mail-requires-clause-word : goal.collect-mail-requires-clause-word
 collect-mail-requires-clause-word g c =
-    let is = ap (place_of first) c.seat.ensures ∙ second _ _ _ _ _ _ _ c.in_ok-floor.ensures c.look_free.ensures.came c.write_part.ensures.came c.write_part-2.ensures.came c.charge.ensures.came c.post.ensures.came c.look_free-2.ensures.came in
+    let is = ap (place_of first) c.seat.ensures.seated ∙ second _ _ _ _ _ _ _ c.in_ok-floor.ensures c.look_free.ensures.came c.write_part.ensures.came c.write_part-2.ensures.came c.charge.ensures.came c.post.ensures.came c.look_free-2.ensures.came in
     let n = (sizes _ is).2 in some_words _ (omega (arith, n))
 
 pub collect-rest-requires-clause-from : goal.collect-rest-requires-clause-from
 collect-rest-requires-clause-from g c =
-    let is = ap (place_of first) c.seat.ensures ∙ second _ _ _ _ _ _ _ c.in_ok-floor.ensures c.look_free.ensures.came c.write_part.ensures.came c.write_part-2.ensures.came c.charge.ensures.came c.post.ensures.came c.look_free-2.ensures.came in
+    let is = ap (place_of first) c.seat.ensures.seated ∙ second _ _ _ _ _ _ _ c.in_ok-floor.ensures c.look_free.ensures.came c.write_part.ensures.came c.write_part-2.ensures.came c.charge.ensures.came c.post.ensures.came c.look_free-2.ensures.came in
     let n = (sizes _ is).1 in let a = ap (λ (x : P). x.own.federates) c.collect-mail.ensures.place in omega (arith, n, a)
 
 pub collect-rest-requires-clause-other : goal.collect-rest-requires-clause-other
 collect-rest-requires-clause-other g c =
-    let is = ap (place_of first) c.seat.ensures ∙ second _ _ _ _ _ _ _ c.in_ok-floor.ensures c.look_free.ensures.came c.write_part.ensures.came c.write_part-2.ensures.came c.charge.ensures.came c.post.ensures.came c.look_free-2.ensures.came in
+    let is = ap (place_of first) c.seat.ensures.seated ∙ second _ _ _ _ _ _ _ c.in_ok-floor.ensures c.look_free.ensures.came c.write_part.ensures.came c.write_part-2.ensures.came c.charge.ensures.came c.post.ensures.came c.look_free-2.ensures.came in
     let n = (sizes _ is).0 in let a = ap (λ (x : P). x.own.number) c.collect-mail.ensures.place in λ e. omega (arith, n, a, e)
 
 pub collect-rest-requires-clause-word : goal.collect-rest-requires-clause-word
 collect-rest-requires-clause-word g c =
-    let is = ap (place_of first) c.seat.ensures ∙ second _ _ _ _ _ _ _ c.in_ok-floor.ensures c.look_free.ensures.came c.write_part.ensures.came c.write_part-2.ensures.came c.charge.ensures.came c.post.ensures.came c.look_free-2.ensures.came in
+    let is = ap (place_of first) c.seat.ensures.seated ∙ second _ _ _ _ _ _ _ c.in_ok-floor.ensures c.look_free.ensures.came c.write_part.ensures.came c.write_part-2.ensures.came c.charge.ensures.came c.post.ensures.came c.look_free-2.ensures.came in
     let n = (sizes _ is).2 in let a = ap (λ (x : P). x.own.buffers) c.collect-mail.ensures.place in some_words _ (omega (arith, n, a))
 
 pub read_part-requires-clause-from : goal.read_part-requires-clause-from
 read_part-requires-clause-from g c =
-    let is = ap (place_of first) c.seat.ensures ∙ second _ _ _ _ _ _ _ c.in_ok-floor.ensures c.look_free.ensures.came c.write_part.ensures.came c.write_part-2.ensures.came c.charge.ensures.came c.post.ensures.came c.look_free-2.ensures.came in
+    let is = ap (place_of first) c.seat.ensures.seated ∙ second _ _ _ _ _ _ _ c.in_ok-floor.ensures c.look_free.ensures.came c.write_part.ensures.came c.write_part-2.ensures.came c.charge.ensures.came c.post.ensures.came c.look_free-2.ensures.came in
     let n = (sizes _ is).1 in let a = ap (λ (x : P). x.own.federates) c.collect-mail.ensures.place in let b = ap (λ (x : P). x.own.federates) c.collect-rest.ensures.place in omega (arith, n, a, b)
 
 pub read_part-requires-clause-buffer : goal.read_part-requires-clause-buffer
 read_part-requires-clause-buffer g c =
-    let is = ap (place_of first) c.seat.ensures ∙ second _ _ _ _ _ _ _ c.in_ok-floor.ensures c.look_free.ensures.came c.write_part.ensures.came c.write_part-2.ensures.came c.charge.ensures.came c.post.ensures.came c.look_free-2.ensures.came in
+    let is = ap (place_of first) c.seat.ensures.seated ∙ second _ _ _ _ _ _ _ c.in_ok-floor.ensures c.look_free.ensures.came c.write_part.ensures.came c.write_part-2.ensures.came c.charge.ensures.came c.post.ensures.came c.look_free-2.ensures.came in
     let n = (sizes _ is).2 in let a = ap (λ (x : P). x.own.buffers) c.collect-mail.ensures.place in let b = ap (λ (x : P). x.own.buffers) c.collect-rest.ensures.place in omega (arith, n, a, b)
 
 pub release-requires-clause-from : goal.release-requires-clause-from
 release-requires-clause-from g c =
-    let is = ap (place_of first) c.seat.ensures ∙ second _ _ _ _ _ _ _ c.in_ok-floor.ensures c.look_free.ensures.came c.write_part.ensures.came c.write_part-2.ensures.came c.charge.ensures.came c.post.ensures.came c.look_free-2.ensures.came in
+    let is = ap (place_of first) c.seat.ensures.seated ∙ second _ _ _ _ _ _ _ c.in_ok-floor.ensures c.look_free.ensures.came c.write_part.ensures.came c.write_part-2.ensures.came c.charge.ensures.came c.post.ensures.came c.look_free-2.ensures.came in
     let n = (sizes _ is).1 in let a = ap (λ (x : P). x.own.federates) c.collect-mail.ensures.place in let b = ap (λ (x : P). x.own.federates) c.collect-rest.ensures.place in let d = ap (λ (x : P). x.own.federates) c.read_part.ensures.place in omega (arith, n, a, b, d)
 
 pub release-requires-clause-buffer : goal.release-requires-clause-buffer
 release-requires-clause-buffer g c =
-    let is = ap (place_of first) c.seat.ensures ∙ second _ _ _ _ _ _ _ c.in_ok-floor.ensures c.look_free.ensures.came c.write_part.ensures.came c.write_part-2.ensures.came c.charge.ensures.came c.post.ensures.came c.look_free-2.ensures.came in
+    let is = ap (place_of first) c.seat.ensures.seated ∙ second _ _ _ _ _ _ _ c.in_ok-floor.ensures c.look_free.ensures.came c.write_part.ensures.came c.write_part-2.ensures.came c.charge.ensures.came c.post.ensures.came c.look_free-2.ensures.came in
     let n = (sizes _ is).2 in let a = ap (λ (x : P). x.own.buffers) c.collect-mail.ensures.place in let b = ap (λ (x : P). x.own.buffers) c.collect-rest.ensures.place in let d = ap (λ (x : P). x.own.buffers) c.read_part.ensures.place in omega (arith, n, a, b, d)
 
 -- after two collects, of which the first gave the bit of the buffer 0
@@ -94,12 +95,12 @@ held p q r mail rest is next last one none =
 
 pub read_part-requires-clause-held : goal.read_part-requires-clause-held
 read_part-requires-clause-held g c =
-    let is = ap (place_of first) c.seat.ensures ∙ second _ _ _ _ _ _ _ c.in_ok-floor.ensures c.look_free.ensures.came c.write_part.ensures.came c.write_part-2.ensures.came c.charge.ensures.came c.post.ensures.came c.look_free-2.ensures.came in
+    let is = ap (place_of first) c.seat.ensures.seated ∙ second _ _ _ _ _ _ _ c.in_ok-floor.ensures c.look_free.ensures.came c.write_part.ensures.came c.write_part-2.ensures.came c.charge.ensures.came c.post.ensures.came c.look_free-2.ensures.came in
     held _ _ _ c.collect-mail.result c.collect-rest.result is c.collect-mail.ensures.place c.collect-rest.ensures.place (search rules) (search rules)
 
 pub release-requires-clause-held : goal.release-requires-clause-held
 release-requires-clause-held g c =
-    let is = ap (place_of first) c.seat.ensures ∙ second _ _ _ _ _ _ _ c.in_ok-floor.ensures c.look_free.ensures.came c.write_part.ensures.came c.write_part-2.ensures.came c.charge.ensures.came c.post.ensures.came c.look_free-2.ensures.came in
+    let is = ap (place_of first) c.seat.ensures.seated ∙ second _ _ _ _ _ _ _ c.in_ok-floor.ensures c.look_free.ensures.came c.write_part.ensures.came c.write_part-2.ensures.came c.charge.ensures.came c.post.ensures.came c.look_free-2.ensures.came in
     ap (λ (x : P). bit_at (slice_index x.own.stock.holds 0) 0) c.read_part.ensures.place
     ∙ held _ _ _ c.collect-mail.result c.collect-rest.result is c.collect-mail.ensures.place c.collect-rest.ensures.place (search rules) (search rules)
 
@@ -114,11 +115,11 @@ again a b d e h l zero is bd de eh hl =
 pub look_free-requires-3-clause-buffer : goal.look_free-requires-3-clause-buffer
 look_free-requires-3-clause-buffer g c =
     let zero : c.look_free-2.new.self.seated ≡ 0 = c.look_free-2.ensures.came.seated ∙ (c.post.ensures.came.seated ∙ (c.charge.ensures.came.seated ∙ (c.write_part-2.ensures.came.seated ∙ (c.write_part.ensures.came.seated ∙ (c.look_free.ensures.came.seated ∙ ap (λ (x : F). x.seated) c.in_ok-floor.ensures))))) in
-    let is = ap (place_of first) c.seat-2.ensures ∙ again c.look_free-2.new.self _ _ _ _ _ zero c.seat.ensures c.collect-mail.ensures.came c.collect-rest.ensures.came c.read_part.ensures.came c.release.ensures.came in
+    let is = ap (place_of first) c.seat-2.ensures.seated ∙ again c.look_free-2.new.self _ _ _ _ _ zero c.seat.ensures.seated c.collect-mail.ensures.came c.collect-rest.ensures.came c.read_part.ensures.came c.release.ensures.came in
     subst (λ (x : P). 0 < x.own.buffers) (sym is) (search rules)
 
 pub look_free-requires-3-clause-posted : goal.look_free-requires-3-clause-posted
 look_free-requires-3-clause-posted g c =
     let zero : c.look_free-2.new.self.seated ≡ 0 = c.look_free-2.ensures.came.seated ∙ (c.post.ensures.came.seated ∙ (c.charge.ensures.came.seated ∙ (c.write_part-2.ensures.came.seated ∙ (c.write_part.ensures.came.seated ∙ (c.look_free.ensures.came.seated ∙ ap (λ (x : F). x.seated) c.in_ok-floor.ensures))))) in
-    let is = ap (place_of first) c.seat-2.ensures ∙ again c.look_free-2.new.self _ _ _ _ _ zero c.seat.ensures c.collect-mail.ensures.came c.collect-rest.ensures.came c.read_part.ensures.came c.release.ensures.came in
+    let is = ap (place_of first) c.seat-2.ensures.seated ∙ again c.look_free-2.new.self _ _ _ _ _ zero c.seat.ensures.seated c.collect-mail.ensures.came c.collect-rest.ensures.came c.read_part.ensures.came c.release.ensures.came in
     ap (λ (x : P). (buffer_of x.own.stock 0).to_post) is ∙ search rules
