@@ -2,3 +2,5 @@ pub mod Views
 pub mod Rest
 pub mod Pushes
 pub mod KeysMean
+pub mod Ranges
+pub mod Ends

@@ -9,7 +9,8 @@ use Rattle.std.proofs.lemmas.Nat.{or_lt}
 use Rattle.std.proofs.Math.Pow.{pow-lt}
 use Rattle.kit_rules.specs.declared.table.Group.{Group}
 use Rattle.kit_rules.specs.declared.table.Federate.{Federate}
-use Rattle.kit_rules.specs.Federation.{IsName, IsGroup, IsFederate, AreFederates}
+use Rattle.kit_rules.specs.Names.{IsName}
+use Rattle.kit_rules.specs.Federation.{IsGroup, IsFederate, AreFederates}
 use Rattle.kit_file.specs.SoFar.{AreNames, IsNewName, AreGroupsSoFar, AreFederatesSoFar}
 use Rattle.kit_file.specs.Names.{itself, group_name}
 

@@ -2,6 +2,7 @@
 use Rattle.std.specs.Prelude.{ℕ, List, [], ◌∷◌, ◌++◌, nat_le, if◌then◌else◌, Option, Some, None, Result, Ok, codes}
 use Rattle.serde_json.specs.Data.{Data}
 use Rattle.serde_json.specs.Find.{get}
+use Rattle.kit_rules.specs.Limits.{most_actions, most_time}
 use Rattle.kit_rules.specs.declared.table.Var.{Var}
 use Rattle.kit_rules.specs.declared.table.Group.{Group}
 use Rattle.kit_rules.specs.declared.table.Action.{Action}
@@ -20,13 +21,19 @@ abbrev pub keep_of : List Var → Data → Option Data → Result (Option ℕ) F
 keep_of vars d None = Ok None
 keep_of vars d (Some v) = reference var_name vars (codes "keep") d >>= λ k. Ok (Some k)
 
+-- the key delay of a send: no less than the lookahead
+unfoldable pub delay_of : ℕ → Data → Result ℕ Fault
+delay_of least d = do
+  delay ← number (codes "delay") 0 most_time d
+  u ← guard (nat_le least delay) kind.SendTooSoon (key_path (codes "delay"))
+  Ok delay
+
 -- a message to a group, sent no sooner than the lookahead allows, of which there has to be one
 unfoldable pub send_of : List Group → List Var → Option ℕ → Data → Result Action Fault
 send_of groups vars lookahead d = do
   least ← needed_lookahead (codes "send") lookahead
   g ← reference group_name groups (codes "send") d
-  delay ← number (codes "delay") 0 100000 d
-  u ← guard (nat_le least delay) kind.SendTooSoon (key_path (codes "delay"))
+  delay ← delay_of least d
   value ← operand_of (codes "value") vars d
   keep ← keep_of vars d (get (codes "keep") d)
   Ok (action.Send g delay value keep)
@@ -62,13 +69,13 @@ retract_of vars lookahead d = do
 -- a time advance request from now on, of this step
 unfoldable pub tar_of : Data → Result Action Fault
 tar_of d = do
-  n ← number (codes "tar") 1 100000 d
+  n ← number (codes "tar") 1 most_time d
   Ok (action.Tar n)
 
 -- a next event request from now on, of this step
 unfoldable pub ner_of : Data → Result Action Fault
 ner_of d = do
-  n ← number (codes "ner") 1 100000 d
+  n ← number (codes "ner") 1 most_time d
   Ok (action.Ner n)
 
 -- an action of the last three kinds, or of none
@@ -85,8 +92,12 @@ action_of groups vars lookahead d = do
 unfoldable pub action_step : List Group → List Var → Option ℕ → ℕ → List Action → Data → Result (List Action) Fault
 action_step groups vars lookahead i done d = within (item_path (codes "do") i) (action_of groups vars lookahead d) >>= λ a. Ok (done ++ a ∷ [])
 
+-- the members of the list do
+abbrev pub action_list_of : Data → Result (List Data) Fault
+action_list_of d = list (codes "do") 0 most_actions d
+
 -- the list do
 unfoldable pub actions_of : List Group → List Var → Option ℕ → Data → Result (List Action) Fault
 actions_of groups vars lookahead d = do
-  ds ← list (codes "do") 0 16 d
+  ds ← action_list_of d
   each (action_step groups vars lookahead) 0 [] ds

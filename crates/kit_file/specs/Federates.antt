@@ -1,6 +1,7 @@
 -- The federates in full, once the groups are known.
 use Rattle.std.specs.Prelude.{ℕ, List, [], ◌∷◌, ◌++◌, Bool, true, false, Result, Ok, codes, slice_index_or}
 use Rattle.serde_json.specs.Data.{Data}
+use Rattle.kit_rules.specs.Limits.{most_time}
 use Rattle.kit_rules.specs.declared.table.Group.{Group}
 use Rattle.kit_rules.specs.declared.table.Federate.{Federate}
 use Rattle.kit_rules.specs.declared.table.Wish.{Wish}
@@ -16,8 +17,8 @@ use Rattle.kit_file.specs.Lookaheads.{lookahead_of}
 
 -- the request of an object that has tar, or else ner
 abbrev pub request_of : Bool → Bool → Data → Result Wish Fault
-request_of true ner a = number (codes "tar") 1 100000 a >>= λ n. Ok (wish.Tar n)
-request_of false true a = number (codes "ner") 1 100000 a >>= λ n. Ok (wish.Ner n)
+request_of true ner a = number (codes "tar") 1 most_time a >>= λ n. Ok (wish.Tar n)
+request_of false true a = number (codes "ner") 1 most_time a >>= λ n. Ok (wish.Ner n)
 request_of false false a = refused kind.Missing (key_path (codes "tar"))
 
 -- the request that an object makes: TAR if it has both keys

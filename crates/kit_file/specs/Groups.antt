@@ -2,6 +2,7 @@
 use Rattle.std.specs.Prelude.{ℕ, ◌^◌, List, [], ◌∷◌, ◌++◌, ◌==◌, if◌then◌else◌, Result, Ok, codes, bit_and, bit_or}
 use Rattle.serde_json.specs.Data.{Data}
 use Rattle.serde_json.specs.Find.{get, as_str}
+use Rattle.kit_rules.specs.Limits.{most_federates, most_groups}
 use Rattle.kit_rules.specs.declared.table.Group.{Group}
 use Rattle.kit_file.specs.declared.fault.FaultKind.TheVariants as kind
 use Rattle.kit_file.specs.declared.fault.Fault.{Fault}
@@ -21,10 +22,14 @@ member_of names bits d = do
 unfoldable pub member_step : List (List ℕ) → ℕ → ℕ → Data → Result ℕ Fault
 member_step names i bits d = within (item_path (codes "members") i) (member_of names bits d)
 
+-- the members of the list members
+abbrev pub member_list_of : Data → Result (List Data) Fault
+member_list_of d = list (codes "members") 0 most_federates d
+
 -- the list members, as one bit for each federate
 unfoldable pub members_of : List (List ℕ) → Data → Result ℕ Fault
 members_of names d = do
-  ds ← list (codes "members") 0 16 d
+  ds ← member_list_of d
   each (member_step names) 0 0 ds
 
 -- a group: its name, new among these, and its members
@@ -39,8 +44,12 @@ group_of names done d = do
 unfoldable pub group_step : List (List ℕ) → ℕ → List Group → Data → Result (List Group) Fault
 group_step names i done d = within (item_path (codes "groups") i) (group_of names done d) >>= λ g. Ok (done ++ g ∷ [])
 
--- the list groups, which may be absent
+-- the members of the list groups, which may be absent
+abbrev pub group_list_of : Data → Result (List Data) Fault
+group_list_of d = optional_list (codes "groups") most_groups (get (codes "groups") d)
+
+-- the list groups
 unfoldable pub groups_of : List (List ℕ) → Data → Result (List Group) Fault
 groups_of names d = do
-  ds ← optional_list (codes "groups") 32 (get (codes "groups") d)
+  ds ← group_list_of d
   each (group_step names) 0 [] ds

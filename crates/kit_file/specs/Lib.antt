@@ -15,3 +15,4 @@ pub mod Federates
 pub mod Walk
 pub mod Answers
 pub mod Laws
+pub mod Ranges

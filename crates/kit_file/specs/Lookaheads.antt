@@ -2,6 +2,7 @@
 use Rattle.std.specs.Prelude.{ℕ, List, Bool, true, false, ◌==◌, if◌then◌else◌, Option, Some, None, Result, Ok, codes}
 use Rattle.serde_json.specs.Data.{Data}
 use Rattle.serde_json.specs.Find.{get, as_bool}
+use Rattle.kit_rules.specs.Limits.{most_time}
 use Rattle.kit_file.specs.declared.fault.FaultKind.TheVariants as kind
 use Rattle.kit_file.specs.declared.fault.Fault.{Fault}
 use Rattle.kit_file.specs.Paths.{key_path}
@@ -19,7 +20,7 @@ regulating_of version d = if version == 1 then Ok true else regulating_in (get (
 
 -- the lookahead of a federate that is regulating; that of another is not looked at
 abbrev pub lookahead_if : Bool → Data → Result (Option ℕ) Fault
-lookahead_if true d = number (codes "lookahead") 1 100000 d >>= λ l. Ok (Some l)
+lookahead_if true d = number (codes "lookahead") 1 most_time d >>= λ l. Ok (Some l)
 lookahead_if false d = Ok None
 
 -- the lookahead, if any, of a federate in a file of this version

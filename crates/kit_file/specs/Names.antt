@@ -1,9 +1,10 @@
 -- Names: where one is given, and where one is referred to.
-use Rattle.std.specs.Prelude.{ℕ, List, length, Bool, nat_le, ◌&&◌, ◌||◌, ◌==◌, if◌then◌else◌, Option, Result, Ok}
-use Rattle.std.specs.List.{list_any, list_all, position}
+use Rattle.std.specs.Prelude.{ℕ, List, Bool, if◌then◌else◌, Option, Result, Ok}
+use Rattle.std.specs.List.{list_any, position}
 use Rattle.serde_json.specs.Data.{Data}
 use Rattle.kit_rules.specs.declared.table.Var.{Var}
 use Rattle.kit_rules.specs.declared.table.Group.{Group}
+use Rattle.kit_rules.specs.Names.{is_name}
 use Rattle.kit_file.specs.declared.fault.FaultKind.TheVariants as kind
 use Rattle.kit_file.specs.declared.fault.Fault.{Fault}
 use Rattle.kit_file.specs.Paths.{key_path}
@@ -21,14 +22,6 @@ var_name v = v.name
 -- the name of a group
 abbrev pub group_name : Group → List ℕ
 group_name g = g.name
-
--- a letter, a digit, _ or -
-abbrev pub is_name_byte : ℕ → Bool
-is_name_byte b = (nat_le 97 b && nat_le b 122) || (nat_le 65 b && nat_le b 90) || (nat_le 48 b && nat_le b 57) || (b == 95) || (b == 45)
-
--- 1 to 16 such bytes
-abbrev pub is_name : List ℕ → Bool
-is_name s = nat_le 1 (length s) && nat_le (length s) 16 && list_all is_name_byte s
 
 -- a text of the form of a name
 unfoldable pub name : List ℕ → Data → Result (List ℕ) Fault

@@ -2,6 +2,7 @@
 use Rattle.std.specs.Prelude.{ℕ, List, [], ◌∷◌, ◌++◌, if◌then◌else◌, Option, Some, None, Result, Ok, codes}
 use Rattle.serde_json.specs.Data.{Data}
 use Rattle.serde_json.specs.Find.{get, as_str}
+use Rattle.kit_rules.specs.Limits.{most_conds, most_rules}
 use Rattle.kit_rules.specs.declared.table.Var.{Var}
 use Rattle.kit_rules.specs.declared.table.Group.{Group}
 use Rattle.kit_rules.specs.declared.table.Compare.{Compare}
@@ -42,10 +43,14 @@ cond_of vars d = do
 unfoldable pub cond_step : List Var → ℕ → List Cond → Data → Result (List Cond) Fault
 cond_step vars i done d = within (item_path (codes "if") i) (cond_of vars d) >>= λ c. Ok (done ++ c ∷ [])
 
--- the list if, which may be absent
+-- the members of the list if, which may be absent
+abbrev pub cond_list_of : Data → Result (List Data) Fault
+cond_list_of d = optional_list (codes "if") most_conds (get (codes "if") d)
+
+-- the list if
 unfoldable pub conds_of : List Var → Data → Result (List Cond) Fault
 conds_of vars d = do
-  ds ← optional_list (codes "if") 8 (get (codes "if") d)
+  ds ← cond_list_of d
   each (cond_step vars) 0 [] ds
 
 -- on a message to this group
@@ -79,8 +84,12 @@ rule_of groups vars lookahead d = do
 unfoldable pub rule_step : List Group → List Var → Option ℕ → ℕ → List Rule → Data → Result (List Rule) Fault
 rule_step groups vars lookahead i done d = within (item_path (codes "rules") i) (rule_of groups vars lookahead d) >>= λ r. Ok (done ++ r ∷ [])
 
--- the list rules, which may be absent
+-- the members of the list rules, which may be absent
+abbrev pub rule_list_of : Data → Result (List Data) Fault
+rule_list_of d = optional_list (codes "rules") most_rules (get (codes "rules") d)
+
+-- the list rules
 unfoldable pub rules_of : List Group → List Var → Option ℕ → Data → Result (List Rule) Fault
 rules_of groups vars lookahead d = do
-  ds ← optional_list (codes "rules") 64 (get (codes "rules") d)
+  ds ← rule_list_of d
   each (rule_step groups vars lookahead) 0 [] ds

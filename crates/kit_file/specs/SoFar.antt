@@ -2,7 +2,8 @@
 use Rattle.std.specs.Prelude.{◌≡◌, ◌≢◌, ℕ, List, All, AllPairs, map, take, length}
 use Rattle.kit_rules.specs.declared.table.Group.{Group}
 use Rattle.kit_rules.specs.declared.table.Federate.{Federate}
-use Rattle.kit_rules.specs.Federation.{IsName, IsGroup, IsFederate}
+use Rattle.kit_rules.specs.Names.{IsName}
+use Rattle.kit_rules.specs.Federation.{IsGroup, IsFederate}
 
 -- each has the form of a name, and no two are the same
 pub record AreNames {X : Type 0} (name_of : X → List ℕ) (xs : List X) : Type 0 where

@@ -4,6 +4,7 @@ ghost use Rattle.std.specs.Prelude.{◌≡◌, ◌+◌, ◌<◌, ◌≤◌, ℕ,
 ghost use Rattle.serde_json.specs.View.{view};
 ghost use Rattle.serde_json.specs.Find.{get};
 ghost use Rattle.kit_rules.specs.Federation.{IsAction};
+ghost use Rattle.kit_rules.specs.Limits.{most_actions, most_groups, most_vars};
 ghost use Rattle.kit_file.specs.Agreement.{Gives};
 ghost use Rattle.kit_file.specs.Actions.{set_of, add_of, sub_of, retract_of, tar_of, ner_of, last_kinds_of, action_of, action_step, actions_of};
 
@@ -14,13 +15,13 @@ use crate::operands::operand_at;
 use crate::places::{list_at, number_at, object_here};
 use crate::sends::send_in;
 use kit_base::Items;
-use kit_rules::{Action, Group, Var};
+use kit_rules::{Action, Group, MOST_ACTIONS, MOST_TIME, Var};
 use serde_json::Value;
 use std::alloc::Global;
 
 #[tactic(auto, unfolding(crate::specs::Actions::set_of))]
 fn set_in(alloc: Global, vars: &[Var], value: &Value) -> Result<Action, WalkEnd>
-    requires { length vars.now ≤ 8 }
+    requires { length vars.now ≤ most_vars }
     ensures exact { Gives (λ a. a) result (set_of vars.now (view value.now)) }
     ensures sound { (groups : ℕ) (lookahead : Option ℕ) → IfOk result (λ a. IsAction groups (length vars.now) lookahead a) }
 {
@@ -31,7 +32,7 @@ fn set_in(alloc: Global, vars: &[Var], value: &Value) -> Result<Action, WalkEnd>
 
 #[tactic(auto, unfolding(crate::specs::Actions::add_of))]
 fn add_in(alloc: Global, vars: &[Var], value: &Value) -> Result<Action, WalkEnd>
-    requires { length vars.now ≤ 8 }
+    requires { length vars.now ≤ most_vars }
     ensures exact { Gives (λ a. a) result (add_of vars.now (view value.now)) }
     ensures sound { (groups : ℕ) (lookahead : Option ℕ) → IfOk result (λ a. IsAction groups (length vars.now) lookahead a) }
 {
@@ -42,7 +43,7 @@ fn add_in(alloc: Global, vars: &[Var], value: &Value) -> Result<Action, WalkEnd>
 
 #[tactic(auto, unfolding(crate::specs::Actions::sub_of))]
 fn sub_in(alloc: Global, vars: &[Var], value: &Value) -> Result<Action, WalkEnd>
-    requires { length vars.now ≤ 8 }
+    requires { length vars.now ≤ most_vars }
     ensures exact { Gives (λ a. a) result (sub_of vars.now (view value.now)) }
     ensures sound { (groups : ℕ) (lookahead : Option ℕ) → IfOk result (λ a. IsAction groups (length vars.now) lookahead a) }
 {
@@ -58,7 +59,7 @@ fn retract_in(
     lookahead: Option<u32>,
     value: &Value,
 ) -> Result<Action, WalkEnd>
-    requires { length vars.now ≤ 8 }
+    requires { length vars.now ≤ most_vars }
     ensures exact { Gives (λ a. a) result (retract_of vars.now lookahead (view value.now)) }
     ensures sound { (groups : ℕ) → IfOk result (λ a. IsAction groups (length vars.now) lookahead a) }
 {
@@ -72,7 +73,7 @@ fn tar_in(alloc: Global, value: &Value) -> Result<Action, WalkEnd>
     ensures exact { Gives (λ a. a) result (tar_of (view value.now)) }
     ensures sound { (groups vars : ℕ) (lookahead : Option ℕ) → IfOk result (λ a. IsAction groups vars lookahead a) }
 {
-    let step = number_at(alloc, value, "tar", 1, 100_000)?;
+    let step = number_at(alloc, value, "tar", 1, MOST_TIME)?;
     Ok(Action::Tar { step: step as u32 })
 }
 
@@ -81,7 +82,7 @@ fn ner_in(alloc: Global, value: &Value) -> Result<Action, WalkEnd>
     ensures exact { Gives (λ a. a) result (ner_of (view value.now)) }
     ensures sound { (groups vars : ℕ) (lookahead : Option ℕ) → IfOk result (λ a. IsAction groups vars lookahead a) }
 {
-    let step = number_at(alloc, value, "ner", 1, 100_000)?;
+    let step = number_at(alloc, value, "ner", 1, MOST_TIME)?;
     Ok(Action::Ner { step: step as u32 })
 }
 
@@ -92,7 +93,7 @@ fn last_kinds_in(
     lookahead: Option<u32>,
     value: &Value,
 ) -> Result<Action, WalkEnd>
-    requires { length vars.now ≤ 8 }
+    requires { length vars.now ≤ most_vars }
     ensures exact { Gives (λ a. a) result (last_kinds_of vars.now lookahead (view value.now)) }
     ensures sound { (groups : ℕ) → IfOk result (λ a. IsAction groups (length vars.now) lookahead a) }
 {
@@ -116,8 +117,8 @@ fn action_in(
     lookahead: Option<u32>,
     value: &Value,
 ) -> Result<Action, WalkEnd>
-    requires groups { length groups.now ≤ 32 }
-    requires vars { length vars.now ≤ 8 }
+    requires groups { length groups.now ≤ most_groups }
+    requires vars { length vars.now ≤ most_vars }
     ensures exact { Gives (λ a. a) result (action_of groups.now vars.now lookahead (view value.now)) }
     ensures sound { IfOk result (λ a. IsAction (length groups.now) (length vars.now) lookahead a) }
 {
@@ -137,7 +138,7 @@ fn action_in(
     last_kinds_in(alloc, vars, lookahead, value)
 }
 
-#[tactic(auto, using(crate::proofs::Pushes::all_and_one), unfolding(crate::specs::Actions::action_step))]
+#[tactic(auto, using(crate::proofs::Ends::fails_before, crate::proofs::Pushes::all_and_one), unfolding(crate::specs::Actions::action_step))]
 fn push_action(
     alloc: Global,
     groups: &[Group],
@@ -147,8 +148,8 @@ fn push_action(
     done: &mut Items<Action>,
     value: &Value,
 ) -> Result<(), WalkEnd>
-    requires groups { length groups.now ≤ 32 }
-    requires vars { length vars.now ≤ 8 }
+    requires groups { length groups.now ≤ most_groups }
+    requires vars { length vars.now ≤ most_vars }
     requires kept { All (IsAction (length groups.now) (length vars.now) lookahead) done.old }
     ensures exact { Gives (λ _. done.new) result (action_step groups.now vars.now lookahead i done.old (view value.now)) }
     ensures kept { OnOk result (All (IsAction (length groups.now) (length vars.now) lookahead) done.new) }
@@ -159,8 +160,7 @@ fn push_action(
             done.push(one)?;
             Ok(())
         }
-        Err(WalkEnd::Memory) => Err(WalkEnd::Memory),
-        Err(WalkEnd::Fault(fault)) => Err(WalkEnd::Fault(fault.under_item(alloc, "do", i)?)),
+        Err(end) => Err(end.under_item(alloc, "do", i)),
     }
 }
 
@@ -172,13 +172,13 @@ pub(crate) fn actions_in(
     lookahead: Option<u32>,
     value: &Value,
 ) -> Result<Items<Action>, WalkEnd>
-    requires groups { length groups.now ≤ 32 }
-    requires vars { length vars.now ≤ 8 }
+    requires groups { length groups.now ≤ most_groups }
+    requires vars { length vars.now ≤ most_vars }
     ensures exact { Gives (λ v. v) result (actions_of groups.now vars.now lookahead (view value.now)) }
-    ensures few { IfOk result (λ v. length v ≤ 16) }
+    ensures few { IfOk result (λ v. length v ≤ most_actions) }
     ensures sound { IfOk result (λ v. All (IsAction (length groups.now) (length vars.now) lookahead) v) }
 {
-    let items = list_at(alloc, value, "do", 0, 16)?;
+    let items = list_at(alloc, value, "do", 0, MOST_ACTIONS)?;
     let mut done = Items::new(alloc);
     for (i, item) in items.iter().enumerate() {
         push_action(alloc, groups, vars, lookahead, i, &mut done, item)?;

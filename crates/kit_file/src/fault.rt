@@ -7,6 +7,7 @@ ghost use Rattle.kit_file.specs.declared.fault.WalkEnd.TheVariants.{Memory};
 
 use kit_base::push_decimal;
 use std::alloc::{AllocError, AllocFailed, Global};
+use std::fmt::{self, Display, Formatter, Write};
 use std::marker::Model;
 
 /// Where in a file, as text: the keys from the root joined by `.`, with `[i]` for the i-th member
@@ -33,26 +34,44 @@ impl FaultPath {
     }
 }
 
+impl Display for FaultPath {
+    fn fmt<W: Write>(&self, f: &mut Formatter<W>) -> fmt::Result {
+        match str::from_utf8(&self.bytes) {
+            Ok(path) => f.write_str(path),
+            Err(_) => f.write_str("?"),
+        }
+    }
+}
+
 /// Why a file gives no federation.
-#[derive(Debug, Drop)]
+#[derive(Debug, Drop, thiserror::Error)]
 pub enum FileFault {
     /// The bytes are no JSON text.
+    #[error("the file is no JSON text")]
     NotJson,
     /// A key that has to be there is not. The path is the one that it would have.
+    #[error("{path} is missing")]
     Missing { path: FaultPath },
     /// A value is of another kind than its place asks for.
+    #[error("{path} is of the wrong kind")]
     WrongKind { path: FaultPath },
     /// A number, the form of a name or the length of a list is outside its range.
+    #[error("{path} is out of range")]
     OutOfRange { path: FaultPath },
     /// A text names nothing that is known here.
+    #[error("{path} names nothing that is known")]
     UnknownName { path: FaultPath },
     /// A name stands a second time in the same list.
+    #[error("{path} repeats a name")]
     Repeated { path: FaultPath },
     /// The delay of a send is below the federate's lookahead.
+    #[error("{path} is below the lookahead of the federate")]
     SendTooSoon { path: FaultPath },
     /// A federate that is not time-regulating has an action that sends or takes back.
+    #[error("{path} sends or takes back, and its federate is not time-regulating")]
     NotRegulating { path: FaultPath },
     /// Memory ran out.
+    #[error("memory ran out")]
     NoMemory,
 }
 
@@ -100,6 +119,36 @@ impl<T: Drop> From<AllocFailed<T>> for WalkEnd {
     }
 }
 
+impl WalkEnd {
+    ghost use Rattle.kit_file.specs.Agreement.{EndsWithin};
+
+    /// The end, with its fault as seen from where a key holds the value that was walked.
+    pub(crate) fn under_key(self, alloc: Global, key: &str) -> WalkEnd
+        ensures { EndsWithin (key_path key.now) self result }
+    {
+        let WalkEnd::Fault(fault) = self else {
+            return WalkEnd::Memory;
+        };
+        match fault.under_key(alloc, key) {
+            Ok(fault) => WalkEnd::Fault(fault),
+            Err(_) => WalkEnd::Memory,
+        }
+    }
+
+    /// The end, with its fault as seen from where the list under a key holds the value that was walked.
+    pub(crate) fn under_item(self, alloc: Global, key: &str, i: usize) -> WalkEnd
+        ensures { EndsWithin (item_path key.now i) self result }
+    {
+        let WalkEnd::Fault(fault) = self else {
+            return WalkEnd::Memory;
+        };
+        match fault.under_item(alloc, key, i) {
+            Ok(fault) => WalkEnd::Fault(fault),
+            Err(_) => WalkEnd::Memory,
+        }
+    }
+}
+
 impl Fault {
     ghost use Rattle.kit_file.specs.Answers.{rooted, file_fault};
 
@@ -128,7 +177,7 @@ impl Fault {
     }
 
     /// The fault, as seen from where a key holds the value.
-    pub(crate) fn under_key(self, alloc: Global, key: &str) -> Result<Fault, AllocError>
+    fn under_key(self, alloc: Global, key: &str) -> Result<Fault, AllocError>
         ensures { IfOk result (λ f. f ≡ record { kind = self.kind; path = key_path key.now ++ self.path }) }
     {
         let mut bytes = Vec::from_slice(alloc, b".")?;
@@ -141,7 +190,7 @@ impl Fault {
     }
 
     /// The fault, as seen from where the list under a key holds the value.
-    pub(crate) fn under_item(self, alloc: Global, key: &str, i: usize) -> Result<Fault, AllocError>
+    fn under_item(self, alloc: Global, key: &str, i: usize) -> Result<Fault, AllocError>
         ensures { IfOk result (λ f. f ≡ record { kind = self.kind; path = item_path key.now i ++ self.path }) }
     {
         let mut bytes = Vec::from_slice(alloc, b".")?;

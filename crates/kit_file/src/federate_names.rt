@@ -26,7 +26,7 @@ fn federate_name_in<'v>(alloc: Global, done: &[Name], value: &'v Value) -> Resul
     new_name_at(alloc, value, "name", done)
 }
 
-#[tactic(auto, using(crate::proofs::Pushes::one_more_name), unfolding(crate::specs::FederateNames::federate_name_step))]
+#[tactic(auto, using(crate::proofs::Ends::fails_before, crate::proofs::Pushes::one_more_name), unfolding(crate::specs::FederateNames::federate_name_step))]
 fn push_federate_name(
     alloc: Global,
     i: usize,
@@ -43,8 +43,7 @@ fn push_federate_name(
             done.push(Name::of(alloc, name.as_bytes())?)?;
             Ok(())
         }
-        Err(WalkEnd::Memory) => Err(WalkEnd::Memory),
-        Err(WalkEnd::Fault(fault)) => Err(WalkEnd::Fault(fault.under_item(alloc, "federates", i)?)),
+        Err(end) => Err(end.under_item(alloc, "federates", i)),
     }
 }
 

@@ -2,13 +2,15 @@
 
 ghost use Rattle.std.specs.Prelude.{◌≡◌, ◌+◌, IfOk, OnOk, ◌<◌, ◌≤◌, ◌++◌, ◌∷◌, [], codes, map, length, slice_index_or};
 ghost use Rattle.serde_json.specs.View.{view};
+ghost use Rattle.kit_rules.specs.Limits.{most_federates, most_groups};
 ghost use Rattle.kit_file.specs.Agreement.{Gives};
 ghost use Rattle.kit_file.specs.Reading.{within};
 ghost use Rattle.kit_file.specs.SoFar.{AreNames, AreFederatesSoFar};
 ghost use Rattle.kit_file.specs.Names.{itself};
 ghost use Rattle.kit_file.specs.Federates.{wish_of, advance_of, federate_of, federate_step, federates_of};
 ghost use Rattle.kit_file.specs.Paths.{item_path};
-ghost use Rattle.kit_rules.specs.Federation.{IsName, IsWish, IsFederate, AreFederates};
+ghost use Rattle.kit_rules.specs.Names.{IsName};
+ghost use Rattle.kit_rules.specs.Federation.{IsWish, IsFederate, AreFederates};
 
 use crate::fault::{Fault, FaultKind, WalkEnd};
 use crate::lookaheads::lookahead_at;
@@ -16,7 +18,7 @@ use crate::places::{member_at, number_at, object_here};
 use crate::rules::rules_in;
 use crate::variables::vars_in;
 use kit_base::Items;
-use kit_rules::{Federate, Group, Name, Wish};
+use kit_rules::{Federate, Group, MOST_TIME, Name, Wish};
 use serde_json::Value;
 use std::alloc::Global;
 
@@ -27,17 +29,17 @@ fn wish_in(alloc: Global, value: &Value) -> Result<Wish, WalkEnd>
 {
     object_here(alloc, value)?;
     if value.get("tar").is_some() {
-        let step = number_at(alloc, value, "tar", 1, 100_000)?;
+        let step = number_at(alloc, value, "tar", 1, MOST_TIME)?;
         return Ok(Wish::Tar(step as u32));
     }
     if value.get("ner").is_some() {
-        let step = number_at(alloc, value, "ner", 1, 100_000)?;
+        let step = number_at(alloc, value, "ner", 1, MOST_TIME)?;
         return Ok(Wish::Ner(step as u32));
     }
     Err(WalkEnd::Fault(Fault::at_key(alloc, FaultKind::Missing, "tar")?))
 }
 
-#[tactic(auto, unfolding(crate::specs::Federates::advance_of))]
+#[tactic(auto, using(crate::proofs::Ends::fails_within), unfolding(crate::specs::Federates::advance_of))]
 fn advance_in(alloc: Global, value: &Value) -> Result<Wish, WalkEnd>
     ensures exact { Gives (λ w. w) result (advance_of (view value.now)) }
     ensures sound { IfOk result (λ w. IsWish w) }
@@ -45,8 +47,7 @@ fn advance_in(alloc: Global, value: &Value) -> Result<Wish, WalkEnd>
     let found = member_at(alloc, value, "advance")?;
     match wish_in(alloc, found) {
         Ok(wish) => Ok(wish),
-        Err(WalkEnd::Memory) => Err(WalkEnd::Memory),
-        Err(WalkEnd::Fault(fault)) => Err(WalkEnd::Fault(fault.under_key(alloc, "advance")?)),
+        Err(end) => Err(end.under_key(alloc, "advance")),
     }
 }
 
@@ -59,7 +60,7 @@ fn federate_in(
     value: &Value,
 ) -> Result<Federate, WalkEnd>
     requires form { IsName name.now }
-    requires few { length groups.now ≤ 32 }
+    requires few { length groups.now ≤ most_groups }
     ensures exact { Gives (λ f. f) result (federate_of version groups.now name.now (view value.now)) }
     ensures sound { IfOk result (λ f. IsFederate (length groups.now) f) }
     ensures called { IfOk result (λ f. f.name ≡ name.now) }
@@ -77,7 +78,7 @@ fn federate_in(
     })
 }
 
-#[tactic(auto, using(crate::proofs::Pushes::one_more_federate), unfolding(crate::specs::Federates::federate_step))]
+#[tactic(auto, using(crate::proofs::Ends::fails_before, crate::proofs::Pushes::one_more_federate), unfolding(crate::specs::Federates::federate_step))]
 fn push_federate(
     alloc: Global,
     version: u64,
@@ -87,7 +88,7 @@ fn push_federate(
     done: &mut Items<Federate>,
     value: &Value,
 ) -> Result<(), WalkEnd>
-    requires few { length groups.now ≤ 32 }
+    requires few { length groups.now ≤ most_groups }
     requires here { i < length names.now }
     requires given { AreNames itself names.now }
     requires count { length done.old ≡ i }
@@ -101,8 +102,7 @@ fn push_federate(
             done.push(federate)?;
             Ok(())
         }
-        Err(WalkEnd::Memory) => Err(WalkEnd::Memory),
-        Err(WalkEnd::Fault(fault)) => Err(WalkEnd::Fault(fault.under_item(alloc, "federates", i)?)),
+        Err(end) => Err(end.under_item(alloc, "federates", i)),
     }
 }
 
@@ -114,10 +114,10 @@ pub(crate) fn federates_in(
     groups: &[Group],
     items: &[Value],
 ) -> Result<Items<Federate>, WalkEnd>
-    requires few { length groups.now ≤ 32 }
+    requires few { length groups.now ≤ most_groups }
     requires count { length names.now ≡ length items.now }
     requires low { 1 ≤ length names.now }
-    requires high { length names.now ≤ 16 }
+    requires high { length names.now ≤ most_federates }
     requires given { AreNames itself names.now }
     ensures sound { IfOk result (λ v. AreFederates (length groups.now) v) }
     ensures count { IfOk result (λ v. length v ≡ length names.now) }

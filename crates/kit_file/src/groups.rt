@@ -2,6 +2,7 @@
 
 ghost use Rattle.std.specs.Prelude.{◌≡◌, ◌+◌, ◌^◌, IfOk, OnOk, ◌<◌, ◌≤◌, ◌++◌, ◌∷◌, [], codes, map, length};
 ghost use Rattle.serde_json.specs.View.{view};
+ghost use Rattle.kit_rules.specs.Limits.{most_federates};
 ghost use Rattle.kit_file.specs.Agreement.{Gives};
 ghost use Rattle.kit_file.specs.Reading.{within};
 ghost use Rattle.kit_file.specs.SoFar.{IsNewName, AreGroupsSoFar};
@@ -14,13 +15,13 @@ use crate::fault::{Fault, FaultKind, WalkEnd};
 use crate::names::{new_name_at, position_in};
 use crate::places::{list_at, object_here, optional_list_at};
 use kit_base::Items;
-use kit_rules::{Group, Name};
+use kit_rules::{Group, MOST_FEDERATES, MOST_GROUPS, Name};
 use serde_json::Value;
 use std::alloc::Global;
 
 #[tactic(auto, using(crate::proofs::Pushes::one_more_bit), unfolding(crate::specs::Groups::member_of))]
 fn with_member(alloc: Global, names: &[Name], bits: u16, value: &Value) -> Result<u16, WalkEnd>
-    requires few { length names.now ≤ 16 }
+    requires few { length names.now ≤ most_federates }
     requires fits { bits < 2 ^ length names.now }
     ensures exact { Gives (λ b. b) result (member_of names.now bits (view value.now)) }
     ensures fits { IfOk result (λ b. b < 2 ^ length names.now) }
@@ -39,7 +40,7 @@ fn with_member(alloc: Global, names: &[Name], bits: u16, value: &Value) -> Resul
     }
 }
 
-#[tactic(auto, unfolding(crate::specs::Groups::member_step))]
+#[tactic(auto, using(crate::proofs::Ends::fails_within), unfolding(crate::specs::Groups::member_step))]
 fn with_item(
     alloc: Global,
     names: &[Name],
@@ -47,25 +48,24 @@ fn with_item(
     bits: u16,
     value: &Value,
 ) -> Result<u16, WalkEnd>
-    requires few { length names.now ≤ 16 }
+    requires few { length names.now ≤ most_federates }
     requires fits { bits < 2 ^ length names.now }
     ensures exact { Gives (λ b. b) result (member_step names.now i bits (view value.now)) }
     ensures fits { IfOk result (λ b. b < 2 ^ length names.now) }
 {
     match with_member(alloc, names, bits, value) {
         Ok(b) => Ok(b),
-        Err(WalkEnd::Memory) => Err(WalkEnd::Memory),
-        Err(WalkEnd::Fault(fault)) => Err(WalkEnd::Fault(fault.under_item(alloc, "members", i)?)),
+        Err(end) => Err(end.under_item(alloc, "members", i)),
     }
 }
 
 #[tactic(auto, unfolding(crate::specs::Groups::members_of))]
 fn members_in(alloc: Global, names: &[Name], value: &Value) -> Result<u16, WalkEnd>
-    requires few { length names.now ≤ 16 }
+    requires few { length names.now ≤ most_federates }
     ensures exact { Gives (λ b. b) result (members_of names.now (view value.now)) }
     ensures fits { IfOk result (λ b. b < 2 ^ length names.now) }
 {
-    let items = list_at(alloc, value, "members", 0, 16)?;
+    let items = list_at(alloc, value, "members", 0, MOST_FEDERATES)?;
     let mut bits = 0u16;
     for (i, item) in items.iter().enumerate() {
         bits = with_item(alloc, names, i, bits, item)?;
@@ -75,7 +75,7 @@ fn members_in(alloc: Global, names: &[Name], value: &Value) -> Result<u16, WalkE
 
 #[tactic(auto, unfolding(crate::specs::Groups::group_of))]
 fn group_in(alloc: Global, names: &[Name], done: &[Group], value: &Value) -> Result<Group, WalkEnd>
-    requires { length names.now ≤ 16 }
+    requires { length names.now ≤ most_federates }
     ensures exact { Gives (λ g. g) result (group_of names.now done.now (view value.now)) }
     ensures sound { IfOk result (λ g. IsGroup (length names.now) g) }
     ensures given { IfOk result (λ g. IsNewName group_name done.now g.name) }
@@ -89,7 +89,7 @@ fn group_in(alloc: Global, names: &[Name], done: &[Group], value: &Value) -> Res
     })
 }
 
-#[tactic(auto, using(crate::proofs::Pushes::one_more_group), unfolding(crate::specs::Groups::group_step))]
+#[tactic(auto, using(crate::proofs::Ends::fails_before, crate::proofs::Pushes::one_more_group), unfolding(crate::specs::Groups::group_step))]
 fn push_group(
     alloc: Global,
     names: &[Name],
@@ -97,7 +97,7 @@ fn push_group(
     done: &mut Items<Group>,
     value: &Value,
 ) -> Result<(), WalkEnd>
-    requires few { length names.now ≤ 16 }
+    requires few { length names.now ≤ most_federates }
     requires kept { AreGroupsSoFar (length names.now) done.old }
     ensures exact { Gives (λ _. done.new) result (group_step names.now i done.old (view value.now)) }
     ensures kept { OnOk result (AreGroupsSoFar (length names.now) done.new) }
@@ -108,8 +108,7 @@ fn push_group(
             done.push(group)?;
             Ok(())
         }
-        Err(WalkEnd::Memory) => Err(WalkEnd::Memory),
-        Err(WalkEnd::Fault(fault)) => Err(WalkEnd::Fault(fault.under_item(alloc, "groups", i)?)),
+        Err(end) => Err(end.under_item(alloc, "groups", i)),
     }
 }
 
@@ -119,11 +118,11 @@ pub(crate) fn groups_in(
     names: &[Name],
     value: &Value,
 ) -> Result<Items<Group>, WalkEnd>
-    requires { length names.now ≤ 16 }
+    requires { length names.now ≤ most_federates }
     ensures exact { Gives (λ v. v) result (groups_of names.now (view value.now)) }
     ensures sound { IfOk result (λ v. AreGroups (length names.now) v) }
 {
-    let items = optional_list_at(alloc, value, "groups", 32)?;
+    let items = optional_list_at(alloc, value, "groups", MOST_GROUPS)?;
     let mut done = Items::new(alloc);
     for (i, item) in items.iter().enumerate() {
         push_group(alloc, names, i, &mut done, item)?;

@@ -17,7 +17,7 @@ mod sends;
 mod variables;
 
 pub use fault::{FaultPath, FileFault};
-pub use laws::keys_mean;
+pub use laws::{keys_mean, places_take_their_range};
 pub use reading::read_federation;
 
 #[cfg(test)]

@@ -8,6 +8,7 @@ ghost use Rattle.kit_file.specs.Lookaheads.{regulating_of, lookahead_of, needed_
 
 use crate::fault::{Fault, FaultKind, WalkEnd};
 use crate::places::number_at;
+use kit_rules::MOST_TIME;
 use serde_json::Value;
 use std::alloc::Global;
 
@@ -40,7 +41,7 @@ pub(crate) fn lookahead_at(
     if !regulating {
         return Ok(None);
     }
-    let lookahead = number_at(alloc, value, "lookahead", 1, 100_000)?;
+    let lookahead = number_at(alloc, value, "lookahead", 1, MOST_TIME)?;
     Ok(Some(lookahead as u32))
 }
 

@@ -2,14 +2,14 @@
 
 ghost use Rattle.std.specs.Prelude.{◌≡◌, ◌≢◌, ◌<◌, ◌≤◌, ◌⊎◌, List, ℕ, codes, length, IfSome, IfOk, IsTrue, All};
 ghost use Rattle.serde_json.specs.View.{view};
-ghost use Rattle.kit_rules.specs.Federation.{IsName};
+ghost use Rattle.kit_rules.specs.Names.{IsName};
 ghost use Rattle.kit_file.specs.SoFar.{IsNewName};
 ghost use Rattle.kit_file.specs.Names.{position_of, reference, name, fresh, is_given, new_name};
 ghost use Rattle.kit_file.specs.Agreement.{Gives};
 
 use crate::fault::{Fault, FaultKind, WalkEnd};
-use crate::places::{is_text_a_name, text_at};
-use kit_rules::Named;
+use crate::places::text_at;
+use kit_rules::{Named, is_name};
 use serde_json::Value;
 use std::alloc::Global;
 
@@ -27,7 +27,7 @@ fn name_at<'v>(alloc: Global, value: &'v Value, key: &str) -> Result<&'v str, Wa
     ensures form { IfOk result (λ s. IsName s.now) }
 {
     let s = text_at(alloc, value, key)?;
-    if is_text_a_name(s) {
+    if is_name(s.as_bytes()) {
         Ok(s)
     } else {
         Err(WalkEnd::Fault(Fault::at_key(alloc, FaultKind::OutOfRange, key)?))

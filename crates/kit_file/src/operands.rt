@@ -3,6 +3,7 @@
 ghost use Rattle.std.specs.Prelude.{◌≡◌, ◌≤◌, length, IfOk};
 ghost use Rattle.serde_json.specs.View.{view};
 ghost use Rattle.kit_rules.specs.Federation.{IsOperand};
+ghost use Rattle.kit_rules.specs.Limits.{most_vars};
 ghost use Rattle.kit_file.specs.Agreement.{Gives};
 ghost use Rattle.kit_file.specs.Operands.{operand_text, operand_of};
 
@@ -15,7 +16,7 @@ use std::alloc::Global;
 
 #[tactic(auto, unfolding(crate::specs::Operands::operand_text))]
 fn text_operand(alloc: Global, key: &str, vars: &[Var], s: &str) -> Result<Operand, WalkEnd>
-    requires { length vars.now ≤ 8 }
+    requires { length vars.now ≤ most_vars }
     ensures exact { Gives (λ o. o) result (operand_text key.now vars.now s.now) }
     ensures sound { IfOk result (λ o. IsOperand (length vars.now) o) }
 {
@@ -38,7 +39,7 @@ pub(crate) fn operand_at(
     key: &str,
     vars: &[Var],
 ) -> Result<Operand, WalkEnd>
-    requires { length vars.now ≤ 8 }
+    requires { length vars.now ≤ most_vars }
     ensures exact { Gives (λ o. o) result (operand_of key.now vars.now (view value.now)) }
     ensures sound { IfOk result (λ o. IsOperand (length vars.now) o) }
 {

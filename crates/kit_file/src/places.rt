@@ -1,13 +1,11 @@
 //! The kinds of places: objects, keys, numbers, texts and lists.
 
-ghost use Rattle.std.specs.Prelude.{◌≡◌, ◌≤◌, map, length, IfOk, IsTrue, All};
+ghost use Rattle.std.specs.Prelude.{◌≡◌, ◌≤◌, map, length, IfOk};
 ghost use Rattle.serde_json.specs.View.{view};
-ghost use Rattle.kit_rules.specs.Federation.{IsNameByte, IsName};
-ghost use Rattle.std.specs.List.{list_any, list_all};
+ghost use Rattle.std.specs.List.{list_any};
 ghost use Rattle.serde_json.specs.Find.{get};
 ghost use Rattle.kit_file.specs.Agreement.{Gives};
 ghost use Rattle.kit_file.specs.Places.{object, member, number, text, list_of, list, optional_list, is_same};
-ghost use Rattle.kit_file.specs.Names.{is_name_byte, is_name};
 
 use crate::fault::{Fault, FaultKind, WalkEnd};
 use serde_json::Value;
@@ -68,28 +66,6 @@ pub(crate) fn text_at<'v>(alloc: Global, value: &'v Value, key: &str) -> Result<
         Some(s) => Ok(s),
         None => Err(WalkEnd::Fault(Fault::at_key(alloc, FaultKind::WrongKind, key)?)),
     }
-}
-
-fn is_byte_of_name(b: u8) -> bool
-    ensures value { result ≡ is_name_byte b }
-    ensures form { IsTrue result → IsNameByte b }
-{
-    (97 <= b && b <= 122) || (65 <= b && b <= 90) || (48 <= b && b <= 57) || b == 95 || b == 45
-}
-
-fn are_bytes_of_name(bytes: &[u8]) -> bool
-    ensures value { result ≡ list_all is_name_byte bytes.now }
-    ensures form { IsTrue result → All IsNameByte bytes.now }
-{
-    bytes.iter().all(|b| is_byte_of_name(*b))
-}
-
-pub(crate) fn is_text_a_name(s: &str) -> bool
-    ensures value { result ≡ is_name s.now }
-    ensures form { IsTrue result → IsName s.now }
-{
-    let bytes = s.as_bytes();
-    1 <= bytes.len() && bytes.len() <= 16 && are_bytes_of_name(bytes)
 }
 
 pub(crate) fn are_same(a: &[u8], b: &[u8]) -> bool

@@ -12,7 +12,7 @@ use crate::federate_names::federate_names_in;
 use crate::federates::federates_in;
 use crate::groups::groups_in;
 use crate::places::{list_at, number_at, object_here};
-use kit_rules::Federation;
+use kit_rules::{Federation, MOST_BUFFERS, MOST_FEDERATES, MOST_TIME};
 use serde_json::Value;
 use std::alloc::Global;
 
@@ -23,9 +23,9 @@ pub(crate) fn federation_in(alloc: Global, value: &Value) -> Result<Federation, 
 {
     object_here(alloc, value)?;
     let version = number_at(alloc, value, "version", 1, 2)?;
-    let end = number_at(alloc, value, "end", 1, 100_000)?;
-    let buffers = number_at(alloc, value, "buffers", 1, 1024)?;
-    let items = list_at(alloc, value, "federates", 1, 16)?;
+    let end = number_at(alloc, value, "end", 1, MOST_TIME)?;
+    let buffers = number_at(alloc, value, "buffers", 1, MOST_BUFFERS)?;
+    let items = list_at(alloc, value, "federates", 1, MOST_FEDERATES)?;
     let names = federate_names_in(alloc, items)?;
     let groups = groups_in(alloc, names.as_slice(), value)?;
     let federates = federates_in(alloc, version, names.as_slice(), groups.as_slice(), items)?;

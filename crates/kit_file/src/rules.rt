@@ -4,6 +4,7 @@ ghost use Rattle.std.specs.Prelude.{◌≡◌, ◌+◌, ◌<◌, ◌≤◌, ℕ,
 ghost use Rattle.serde_json.specs.View.{view};
 ghost use Rattle.serde_json.specs.Find.{get};
 ghost use Rattle.kit_rules.specs.Federation.{IsAction, IsCond, IsTrigger, IsRule};
+ghost use Rattle.kit_rules.specs.Limits.{most_conds, most_groups, most_rules, most_vars};
 ghost use Rattle.kit_file.specs.Agreement.{Gives};
 ghost use Rattle.kit_file.specs.Reading.{within};
 ghost use Rattle.kit_file.specs.Rules.{named_comparison, comparison_of, cond_of, cond_step, conds_of, got_of, trigger_of, rule_of, rule_step, rules_of};
@@ -14,7 +15,7 @@ use crate::names::reference_at;
 use crate::operands::operand_at;
 use crate::places::{are_same, member_at, object_here, optional_list_at, text_at};
 use kit_base::Items;
-use kit_rules::{Compare, Cond, Group, Rule, Trigger, Var};
+use kit_rules::{Compare, Cond, Group, MOST_CONDS, MOST_RULES, Rule, Trigger, Var};
 use serde_json::Value;
 use std::alloc::Global;
 
@@ -56,7 +57,7 @@ fn comparison_in(alloc: Global, value: &Value) -> Result<Compare, WalkEnd>
 
 #[tactic(auto, unfolding(crate::specs::Rules::cond_of))]
 fn cond_in(alloc: Global, vars: &[Var], value: &Value) -> Result<Cond, WalkEnd>
-    requires { length vars.now ≤ 8 }
+    requires { length vars.now ≤ most_vars }
     ensures exact { Gives (λ c. c) result (cond_of vars.now (view value.now)) }
     ensures sound { IfOk result (λ c. IsCond (length vars.now) c) }
 {
@@ -67,7 +68,7 @@ fn cond_in(alloc: Global, vars: &[Var], value: &Value) -> Result<Cond, WalkEnd>
     Ok(Cond { left, test, right })
 }
 
-#[tactic(auto, using(crate::proofs::Pushes::all_and_one), unfolding(crate::specs::Rules::cond_step))]
+#[tactic(auto, using(crate::proofs::Ends::fails_before, crate::proofs::Pushes::all_and_one), unfolding(crate::specs::Rules::cond_step))]
 fn push_cond(
     alloc: Global,
     vars: &[Var],
@@ -75,7 +76,7 @@ fn push_cond(
     done: &mut Items<Cond>,
     value: &Value,
 ) -> Result<(), WalkEnd>
-    requires vars { length vars.now ≤ 8 }
+    requires vars { length vars.now ≤ most_vars }
     requires kept { All (IsCond (length vars.now)) done.old }
     ensures exact { Gives (λ _. done.new) result (cond_step vars.now i done.old (view value.now)) }
     ensures kept { OnOk result (All (IsCond (length vars.now)) done.new) }
@@ -86,19 +87,18 @@ fn push_cond(
             done.push(one)?;
             Ok(())
         }
-        Err(WalkEnd::Memory) => Err(WalkEnd::Memory),
-        Err(WalkEnd::Fault(fault)) => Err(WalkEnd::Fault(fault.under_item(alloc, "if", i)?)),
+        Err(end) => Err(end.under_item(alloc, "if", i)),
     }
 }
 
 #[tactic(auto, using(crate::proofs::Pushes::all_of_none), unfolding(crate::specs::Rules::conds_of))]
 pub(crate) fn conds_in(alloc: Global, vars: &[Var], value: &Value) -> Result<Items<Cond>, WalkEnd>
-    requires vars { length vars.now ≤ 8 }
+    requires vars { length vars.now ≤ most_vars }
     ensures exact { Gives (λ v. v) result (conds_of vars.now (view value.now)) }
-    ensures few { IfOk result (λ v. length v ≤ 8) }
+    ensures few { IfOk result (λ v. length v ≤ most_conds) }
     ensures sound { IfOk result (λ v. All (IsCond (length vars.now)) v) }
 {
-    let items = optional_list_at(alloc, value, "if", 8)?;
+    let items = optional_list_at(alloc, value, "if", MOST_CONDS)?;
     let mut done = Items::new(alloc);
     for (i, item) in items.iter().enumerate() {
         push_cond(alloc, vars, i, &mut done, item)?;
@@ -108,7 +108,7 @@ pub(crate) fn conds_in(alloc: Global, vars: &[Var], value: &Value) -> Result<Ite
 
 #[tactic(auto, unfolding(crate::specs::Rules::got_of))]
 fn got_in(alloc: Global, groups: &[Group], value: &Value) -> Result<Trigger, WalkEnd>
-    requires { length groups.now ≤ 32 }
+    requires { length groups.now ≤ most_groups }
     ensures exact { Gives (λ t. t) result (got_of groups.now (view value.now)) }
     ensures sound { IfOk result (λ t. IsTrigger (length groups.now) t) }
 {
@@ -117,9 +117,9 @@ fn got_in(alloc: Global, groups: &[Group], value: &Value) -> Result<Trigger, Wal
     Ok(Trigger::Got { group })
 }
 
-#[tactic(auto, unfolding(crate::specs::Rules::trigger_of))]
+#[tactic(auto, using(crate::proofs::Ends::fails_within), unfolding(crate::specs::Rules::trigger_of))]
 fn trigger_at(alloc: Global, groups: &[Group], value: &Value) -> Result<Trigger, WalkEnd>
-    requires { length groups.now ≤ 32 }
+    requires { length groups.now ≤ most_groups }
     ensures exact { Gives (λ t. t) result (trigger_of groups.now (view value.now)) }
     ensures sound { IfOk result (λ t. IsTrigger (length groups.now) t) }
 {
@@ -135,8 +135,7 @@ fn trigger_at(alloc: Global, groups: &[Group], value: &Value) -> Result<Trigger,
     }
     match got_in(alloc, groups, found) {
         Ok(trigger) => Ok(trigger),
-        Err(WalkEnd::Memory) => Err(WalkEnd::Memory),
-        Err(WalkEnd::Fault(fault)) => Err(WalkEnd::Fault(fault.under_key(alloc, "on")?)),
+        Err(end) => Err(end.under_key(alloc, "on")),
     }
 }
 
@@ -148,8 +147,8 @@ fn rule_in(
     lookahead: Option<u32>,
     value: &Value,
 ) -> Result<Rule, WalkEnd>
-    requires groups { length groups.now ≤ 32 }
-    requires vars { length vars.now ≤ 8 }
+    requires groups { length groups.now ≤ most_groups }
+    requires vars { length vars.now ≤ most_vars }
     ensures exact { Gives (λ r. r) result (rule_of groups.now vars.now lookahead (view value.now)) }
     ensures sound { IfOk result (λ r. IsRule (length groups.now) (length vars.now) lookahead r) }
 {
@@ -160,7 +159,7 @@ fn rule_in(
     Ok(Rule { on, conds, actions })
 }
 
-#[tactic(auto, using(crate::proofs::Pushes::all_and_one), unfolding(crate::specs::Rules::rule_step))]
+#[tactic(auto, using(crate::proofs::Ends::fails_before, crate::proofs::Pushes::all_and_one), unfolding(crate::specs::Rules::rule_step))]
 fn push_rule(
     alloc: Global,
     groups: &[Group],
@@ -170,8 +169,8 @@ fn push_rule(
     done: &mut Items<Rule>,
     value: &Value,
 ) -> Result<(), WalkEnd>
-    requires groups { length groups.now ≤ 32 }
-    requires vars { length vars.now ≤ 8 }
+    requires groups { length groups.now ≤ most_groups }
+    requires vars { length vars.now ≤ most_vars }
     requires kept { All (IsRule (length groups.now) (length vars.now) lookahead) done.old }
     ensures exact { Gives (λ _. done.new) result (rule_step groups.now vars.now lookahead i done.old (view value.now)) }
     ensures kept { OnOk result (All (IsRule (length groups.now) (length vars.now) lookahead) done.new) }
@@ -182,8 +181,7 @@ fn push_rule(
             done.push(one)?;
             Ok(())
         }
-        Err(WalkEnd::Memory) => Err(WalkEnd::Memory),
-        Err(WalkEnd::Fault(fault)) => Err(WalkEnd::Fault(fault.under_item(alloc, "rules", i)?)),
+        Err(end) => Err(end.under_item(alloc, "rules", i)),
     }
 }
 
@@ -195,13 +193,13 @@ pub(crate) fn rules_in(
     lookahead: Option<u32>,
     value: &Value,
 ) -> Result<Items<Rule>, WalkEnd>
-    requires groups { length groups.now ≤ 32 }
-    requires vars { length vars.now ≤ 8 }
+    requires groups { length groups.now ≤ most_groups }
+    requires vars { length vars.now ≤ most_vars }
     ensures exact { Gives (λ v. v) result (rules_of groups.now vars.now lookahead (view value.now)) }
-    ensures few { IfOk result (λ v. length v ≤ 64) }
+    ensures few { IfOk result (λ v. length v ≤ most_rules) }
     ensures sound { IfOk result (λ v. All (IsRule (length groups.now) (length vars.now) lookahead) v) }
 {
-    let items = optional_list_at(alloc, value, "rules", 64)?;
+    let items = optional_list_at(alloc, value, "rules", MOST_RULES)?;
     let mut done = Items::new(alloc);
     for (i, item) in items.iter().enumerate() {
         push_rule(alloc, groups, vars, lookahead, i, &mut done, item)?;

@@ -1,12 +1,11 @@
 //! The places of an action that sends.
 
-ghost use Rattle.std.specs.Prelude.{◌≡◌, ◌<◌, ◌≤◌, nat_le, codes, length, IfOk, IfSome};
-ghost use Rattle.kit_file.specs.Paths.{key_path};
+ghost use Rattle.std.specs.Prelude.{◌≡◌, ◌<◌, ◌≤◌, codes, length, IfOk, IfSome};
+ghost use Rattle.kit_rules.specs.Limits.{most_groups, most_time, most_vars};
 ghost use Rattle.kit_file.specs.Agreement.{Gives};
-ghost use Rattle.kit_file.specs.Reading.{guard};
 ghost use Rattle.kit_file.specs.Names.{var_name, reference};
 ghost use Rattle.kit_file.specs.Operands.{operand_of};
-ghost use Rattle.kit_file.specs.Actions.{keep_of, send_of};
+ghost use Rattle.kit_file.specs.Actions.{keep_of, delay_of, send_of};
 ghost use Rattle.serde_json.specs.View.{view};
 ghost use Rattle.serde_json.specs.Find.{get};
 ghost use Rattle.kit_rules.specs.Federation.{IsAction};
@@ -16,12 +15,12 @@ use crate::lookaheads::needed_at;
 use crate::names::reference_at;
 use crate::operands::operand_at;
 use crate::places::number_at;
-use kit_rules::{Action, Group, Var};
+use kit_rules::{Action, Group, MOST_TIME, Var};
 use serde_json::Value;
 use std::alloc::Global;
 
 fn keep_at(alloc: Global, value: &Value, vars: &[Var]) -> Result<Option<u8>, WalkEnd>
-    requires { length vars.now ≤ 8 }
+    requires { length vars.now ≤ most_vars }
     ensures exact { Gives (λ k. k) result (keep_of vars.now (view value.now) (get (codes "keep") (view value.now))) }
     ensures sound { IfOk result (λ k. IfSome k (λ v. v < length vars.now)) }
 {
@@ -31,12 +30,15 @@ fn keep_at(alloc: Global, value: &Value, vars: &[Var]) -> Result<Option<u8>, Wal
     }
 }
 
-fn in_time_at(alloc: Global, least: u32, delay: u64) -> Result<(), WalkEnd>
-    ensures exact { Gives (λ _. tt) result (guard (nat_le least delay) FaultKind.SendTooSoon (key_path (codes "delay"))) }
-    ensures sound { IfOk result (λ _. least ≤ delay) }
+#[tactic(auto, unfolding(crate::specs::Actions::delay_of))]
+fn delay_at(alloc: Global, value: &Value, least: u32) -> Result<u32, WalkEnd>
+    ensures exact { Gives (λ n. n) result (delay_of least (view value.now)) }
+    ensures low { IfOk result (λ n. least ≤ n) }
+    ensures high { IfOk result (λ n. n ≤ most_time) }
 {
+    let delay = number_at(alloc, value, "delay", 0, MOST_TIME)?;
     if least as u64 <= delay {
-        Ok(())
+        Ok(delay as u32)
     } else {
         Err(WalkEnd::Fault(Fault::at_key(alloc, FaultKind::SendTooSoon, "delay")?))
     }
@@ -50,20 +52,19 @@ pub(crate) fn send_in(
     lookahead: Option<u32>,
     value: &Value,
 ) -> Result<Action, WalkEnd>
-    requires groups { length groups.now ≤ 32 }
-    requires vars { length vars.now ≤ 8 }
+    requires groups { length groups.now ≤ most_groups }
+    requires vars { length vars.now ≤ most_vars }
     ensures exact { Gives (λ a. a) result (send_of groups.now vars.now lookahead (view value.now)) }
     ensures sound { IfOk result (λ a. IsAction (length groups.now) (length vars.now) lookahead a) }
 {
     let least = needed_at(alloc, lookahead, "send")?;
     let group = reference_at(alloc, value, "send", groups)?;
-    let delay = number_at(alloc, value, "delay", 0, 100_000)?;
-    in_time_at(alloc, least, delay)?;
+    let delay = delay_at(alloc, value, least)?;
     let operand = operand_at(alloc, value, "value", vars)?;
     let keep = keep_at(alloc, value, vars)?;
     Ok(Action::Send {
         group,
-        delay: delay as u32,
+        delay,
         value: operand,
         keep,
     })

@@ -14,7 +14,7 @@ use crate::fault::WalkEnd;
 use crate::names::new_name_at;
 use crate::places::{number_at, object_here, optional_list_at};
 use kit_base::Items;
-use kit_rules::{Name, Var};
+use kit_rules::{MOST_VARS, Name, Var};
 use serde_json::Value;
 use std::alloc::Global;
 
@@ -32,7 +32,7 @@ fn var_in(alloc: Global, done: &[Var], value: &Value) -> Result<Var, WalkEnd>
     })
 }
 
-#[tactic(auto, using(crate::proofs::Pushes::one_more_name), unfolding(crate::specs::Variables::var_step))]
+#[tactic(auto, using(crate::proofs::Ends::fails_before, crate::proofs::Pushes::one_more_name), unfolding(crate::specs::Variables::var_step))]
 fn push_var(alloc: Global, i: usize, done: &mut Items<Var>, value: &Value) -> Result<(), WalkEnd>
     requires { AreNames var_name done.old }
     ensures exact { Gives (λ _. done.new) result (var_step i done.old (view value.now)) }
@@ -44,8 +44,7 @@ fn push_var(alloc: Global, i: usize, done: &mut Items<Var>, value: &Value) -> Re
             done.push(var)?;
             Ok(())
         }
-        Err(WalkEnd::Memory) => Err(WalkEnd::Memory),
-        Err(WalkEnd::Fault(fault)) => Err(WalkEnd::Fault(fault.under_item(alloc, "vars", i)?)),
+        Err(end) => Err(end.under_item(alloc, "vars", i)),
     }
 }
 
@@ -54,7 +53,7 @@ pub(crate) fn vars_in(alloc: Global, value: &Value) -> Result<Items<Var>, WalkEn
     ensures exact { Gives (λ v. v) result (vars_of (view value.now)) }
     ensures sound { IfOk result (λ v. AreVars v) }
 {
-    let items = optional_list_at(alloc, value, "vars", 8)?;
+    let items = optional_list_at(alloc, value, "vars", MOST_VARS)?;
     let mut done = Items::new(alloc);
     for (i, item) in items.iter().enumerate() {
         push_var(alloc, i, &mut done, item)?;

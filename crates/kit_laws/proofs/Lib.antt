@@ -1,3 +1,4 @@
+pub mod Sane
 pub mod Joins
 pub mod Numbers
 pub mod Worlds

@@ -15,7 +15,7 @@ use Rattle.kit_rules.specs.Step.{is_event}
 use Rattle.kit_rules.proofs.Kept.{Later}
 use Rattle.kit_base.specs.Order.{is_before, put}
 use Rattle.kit_rules.specs.Delivery.{is_pending, pending_messages, is_transported, has_bit, receivers_of, is_same, retracts, is_due, due_messages, due_time}
-use Rattle.kit_laws.specs.Sane.{time_of}
+use Rattle.kit_laws.proofs.Sane.{time_of}
 
 pub any_left : {X : Type 0} (p : X → Bool) (xs ys : List X) → list_any p (xs ++ ys) ≡ false → list_any p xs ≡ false
 any_left p [] ys h = refl

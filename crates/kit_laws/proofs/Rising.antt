@@ -16,7 +16,7 @@ use Rattle.kit_rules.specs.declared.scene.State.{State}
 use Rattle.kit_rules.specs.Step.{state_after, opening_state}
 use Rattle.kit_rules.proofs.Kept.{Kept, Later, kept_none, kept_more, kept_by_step}
 use Rattle.kit_rules.specs.Delivery.{pending_messages, is_pending, due_messages, due_time}
-use Rattle.kit_laws.specs.Sane.{time_of}
+use Rattle.kit_laws.proofs.Sane.{time_of}
 use Rattle.kit_rules.specs.Simulation.{Seat, World, sooner_pair, request_at, seat_due, waiting_from, is_sooner, least_pair, next_grant, world_at_start, seat_at_start, seat_at, nobody_seated, seat_after_pair, world_after_grant, seat_after_grant, world_after_pair, next_world, after_grants, after_deliveries, simulation}
 use Rattle.kit_laws.proofs.Least.{Rank, next_stands, next_least, sooner_rank}
 use Rattle.kit_laws.proofs.Pendings.{From, pending_event, pending_from, due_from, due_capped, due_stays, gone, filter_each}

@@ -8,7 +8,7 @@ use Rattle.kit_rules.specs.declared.table.Wish.{Wish}
 use Rattle.kit_rules.specs.declared.table.Wish.TheVariants as wish
 use Rattle.kit_rules.specs.Parts.{Parts}
 use Rattle.kit_rules.specs.Delivery.{pending_messages}
-use Rattle.kit_laws.specs.Sane.{IsSane, time_of}
+use Rattle.kit_laws.proofs.Sane.{IsSane, time_of}
 use Rattle.kit_laws.proofs.Pendings.{due_capped}
 use Rattle.kit_laws.proofs.Least.{least_keeps}
 use Rattle.kit_rules.specs.Simulation.{Seat, World, request_at, seat_due, waiting_from, least_pair, world_at_start, seat_at_start, seat_at, seat_after_pair, world_after_grant, seat_after_grant}

@@ -5,6 +5,7 @@ use Rattle.kit_rules.specs.Parts.{Parts}
 use Rattle.kit_rules.specs.Federation.{IsFederation}
 use Rattle.kit_rules.specs.Need.{outstanding, need_of}
 use Rattle.kit_rules.specs.Simulation.{Seat, Block, World, seat_at, seat_due, is_sooner, next_grant, world_at_start, world_after_grant, after_grants, simulation}
+pub use Rattle.kit_rules.specs.Merging.{grants_of, Ascend}
 
 -- each grant comes after the one before it, by due time and then by federate
 abbrev pub GrantsRise : Type 0
@@ -43,15 +44,6 @@ pub record IsSimulation (p : Parts) (v : World) : Type 0 where
 -- there is one simulation
 abbrev pub OneSimulation : Type 0
 OneSimulation = (p : Parts) → IsFederation p → IsSimulation p (simulation p) × ((v : World) → IsSimulation p v → v ≡ simulation p)
-
--- the grants of these blocks, in their order
-abbrev pub grants_of : List Block → List (ℕ × ℕ)
-grants_of blocks = map (λ (b : Block). (b.time, b.federate)) blocks
-
--- each comes before those behind it
-abbrev pub Ascend : List (ℕ × ℕ) → Type 0
-Ascend [] = Unit {0}
-Ascend (g ∷ gs) = AllByRecursion (λ h. IsTrue (is_sooner g h)) gs × Ascend gs
 
 -- the grants stand in the order of time and federate
 abbrev pub BlocksAscend : Type 0

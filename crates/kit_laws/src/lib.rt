@@ -3,4 +3,7 @@
 
 mod laws;
 
-pub use laws::{blocks_ascend, few_grants, grants_end, grants_rise, last_grants, one_simulation};
+pub use laws::{
+    blocks_ascend, few_grants, grants_end, grants_rise, last_grants, need_is_greatest,
+    one_simulation, outstanding_stays,
+};

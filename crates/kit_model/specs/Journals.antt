@@ -1,9 +1,12 @@
 -- What a federate's journal tells, and when it is lawful: as HLA 1.3 has it for a time-constrained federate,
 -- no message of a time that was granted, or of an earlier one, comes after the grant.
-use Rattle.std.specs.Prelude.{ℕ, ◌<◌, List, AllPairs, fold, Option, None, Some, IfSome, unwrap_or}
+use Rattle.std.specs.Prelude.{ℕ, ◌<◌, List, [], ◌∷◌, AllPairs, fold, Option, None, Some, IfSome, unwrap_or}
 use Rattle.std.specs.Option.{option_or}
+use Rattle.std.specs.List.{flat_map}
+use Rattle.kit_base.specs.declared.history.Line.{Line}
+use Rattle.kit_base.specs.declared.history.Line.TheVariants as line
 use Rattle.kit_model.specs.declared.journal.JournalEntry.{JournalEntry}
-use Rattle.kit_model.specs.declared.journal.JournalEntry.TheVariants.{Received, Granted}
+use Rattle.kit_model.specs.declared.journal.JournalEntry.TheVariants.{Received, Delivered, Granted}
 
 -- the entries, and for how many more memory is set aside
 pub record JournalState : Type 0 where
@@ -36,3 +39,13 @@ now_of entries = unwrap_or (last_grant entries) 0
 -- an entry may come after the last grant, if there is one
 abbrev pub MayFollowGrant : Option ℕ → JournalEntry → Type 0
 MayFollowGrant last e = IfSome last (λ t. MayFollow (Granted t) e)
+
+-- the line that an entry tells of a federate: that a message was received is no line of a history
+abbrev pub line_told : ℕ → JournalEntry → List Line
+line_told federate (Received m) = []
+line_told federate (Delivered granted m) = line.Deliver granted federate m ∷ []
+line_told federate (Granted t) = line.Grant t federate ∷ []
+
+-- the lines that a journal tells of a federate, in its order: the deliveries and the grants
+abbrev pub lines_told : ℕ → List JournalEntry → List Line
+lines_told federate entries = flat_map (line_told federate) entries

@@ -1,6 +1,8 @@
-ghost use Rattle.std.specs.Prelude.{◌≡◌, ◌<◌, ◌≤◌, ◌+◌, [], ◌∷◌, ◌++◌, OnOk, OnErr};
+ghost use Rattle.std.specs.Prelude.{◌≡◌, ◌<◌, ◌≤◌, ◌+◌, [], ◌∷◌, ◌++◌, IfOk, OnOk, OnErr};
+ghost use Rattle.std.specs.Option.{option_to_list};
+ghost use Rattle.kit_model.specs.Journals.{line_told, lines_told};
 
-use kit_base::Message;
+use kit_base::{Items, Line, Message, Part};
 use std::alloc::{AllocError, Global};
 use std::marker::Model;
 
@@ -89,11 +91,57 @@ impl Journal {
     {
         self.entries.as_slice()
     }
+
+    /// The federate's part of a history: its deliveries and grants in their order, without what it
+    /// received, and the closing values of its variables. It fails only for want of memory.
+    pub fn part(&self, alloc: Global, federate: u8, vars: [u32; 8]) -> Result<Part, AllocError>
+        ensures lines { IfOk result (λ part. part.lines ≡ lines_told federate self.now.entries) }
+        ensures vars { IfOk result (λ part. part.vars ≡ vars) }
+    {
+        let lines = lines_of(alloc, federate, self.entries.as_slice())?;
+        Ok(Part { lines, vars })
+    }
+}
+
+/// The line that an entry tells of a federate, if it tells one.
+fn line_of(federate: u8, entry: &JournalEntry) -> Option<Line>
+    ensures { option_to_list result ≡ line_told federate entry.now }
+{
+    match entry {
+        JournalEntry::Received { .. } => None,
+        JournalEntry::Delivered { granted, message } => Some(Line::Deliver {
+            granted: *granted,
+            federate,
+            message: *message,
+        }),
+        JournalEntry::Granted { time } => Some(Line::Grant {
+            time: *time,
+            federate,
+        }),
+    }
+}
+
+/// The lines that the entries tell of a federate.
+fn lines_of(
+    alloc: Global,
+    federate: u8,
+    entries: &[JournalEntry],
+) -> Result<Items<Line>, AllocError>
+    ensures { IfOk result (λ lines. lines ≡ lines_told federate entries.now) }
+{
+    let mut lines = Items::new(alloc);
+    for entry in entries {
+        if let Some(line) = line_of(federate, entry) {
+            lines.push(line)?;
+        }
+    }
+    Ok(lines)
 }
 
 #[cfg(test)]
 mod tests {
     use super::*;
+    use kit_base::Kind;
     use std::test::Fail;
 
     #[test]
@@ -107,6 +155,39 @@ mod tests {
         journal.push(entries[0]);
         journal.push(entries[1]);
         assert_eq!(rt; journal.entries(), entries.as_slice());
+        Ok(())
+    }
+
+    #[test]
+    fn a_part_has_deliveries_and_grants(rt: HostRuntime) -> Result<(), Fail> {
+        let message = Message {
+            time: 2,
+            sender: 1,
+            number: 1,
+            kind: Kind::Event,
+            group: 0,
+            value: 7,
+        };
+        let mut journal = Journal::empty(rt.alloc());
+        journal.reserve(3)?;
+        journal.push(JournalEntry::Received { message });
+        journal.push(JournalEntry::Delivered {
+            granted: 3,
+            message,
+        });
+        journal.push(JournalEntry::Granted { time: 3 });
+        let part = journal.part(rt.alloc(), 4, [9; 8])?;
+        let federate = 4;
+        let lines = [
+            Line::Deliver {
+                granted: 3,
+                federate,
+                message,
+            },
+            Line::Grant { time: 3, federate },
+        ];
+        assert_eq!(rt; part.lines.as_slice(), lines.as_slice());
+        assert_eq!(rt; part.vars, [9; 8]);
         Ok(())
     }
 }

@@ -5,7 +5,7 @@ use std::alloc::{AllocError, Global};
 ///
 /// Contracts see a queue as the list `entries` and the number `spare`. Only `reserve` and `insert`
 /// take memory.
-pub trait Order {
+pub trait Order: Drop {
     ghost use Rattle.std.specs.Prelude.{◌≡◌, ◌<◌, ◌≤◌, ◌+◌, ℕ, List, [], ◌++◌, ◌↔◌, IsOk, IsNone, IfNone, OnOk, OnErr};
     ghost use Rattle.std.specs.Option.{option_to_list};
     ghost use Rattle.kit_queue.specs.declared.entry.Entry.{Entry};

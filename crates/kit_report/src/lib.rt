@@ -2,7 +2,9 @@
 #![tactic(auto)]
 
 mod history_text;
+mod merging;
 mod needs_text;
 
 pub use history_text::text;
+pub use merging::merge;
 pub use needs_text::need_text;

@@ -1,4 +1,6 @@
 pub mod Names
+pub mod NameForms
+pub mod Dues
 pub mod Lookaheads
 pub mod Growth
 pub mod Kept

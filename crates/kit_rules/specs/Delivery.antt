@@ -1,5 +1,5 @@
 -- Who receives a message, which messages are pending, and when a request is due.
-use Rattle.std.specs.Prelude.{ℕ, ◌-◌, ◌/◌, ◌%◌, ◌^◌, ◌==◌, nat_le, min, Bool, ◌&&◌, not, if◌then◌else◌, List, filter, fold}
+use Rattle.std.specs.Prelude.{ℕ, ◌-◌, ◌/◌, ◌%◌, ◌^◌, ◌==◌, nat_le, min, Bool, ◌&&◌, not, if◌then◌else◌, List, [], ◌∷◌, filter, fold, Option, Some, None}
 use Rattle.std.specs.List.{list_any}
 use Rattle.kit_base.specs.declared.message.Message.{Message}
 use Rattle.kit_base.specs.Order.{in_order}
@@ -44,6 +44,17 @@ pending_messages p i got sent = filter (is_pending p i got sent) sent
 abbrev pub due_time : Request → List Message → ℕ
 due_time (Tar t) ms = t
 due_time (Ner t) ms = fold (λ t m. min t m.time) t ms
+
+-- the least time of messages, if there are any
+abbrev pub least_time : List Message → Option ℕ
+least_time [] = None
+least_time (m ∷ ms) = Some (fold (λ t m. min t m.time) m.time ms)
+
+-- the due time of a request where this is the least time of a pending message
+abbrev pub request_due : Request → Option ℕ → ℕ
+request_due (Tar t) least = t
+request_due (Ner t) None = t
+request_due (Ner t) (Some least) = min t least
 
 -- a pending message timed d or less
 abbrev pub is_due : Parts → ℕ → ℕ → List Message → List Message → Message → Bool

@@ -1,8 +1,11 @@
 pub mod Parts
+pub mod Limits
+pub mod Names
 pub mod Federation
 pub mod Step
 pub mod Delivery
 pub mod Simulation
+pub mod Merging
 pub mod Need
 pub mod Fits
 pub mod Text

@@ -1,6 +1,7 @@
 -- The rule step: what the rules of a federate do to its state.
 use Rattle.std.specs.Prelude.{◌≡◌, ℕ, ◌<◌, ◌≤◌, ◌+◌, ◌-◌, ◌%◌, ◌^◌, ◌==◌, nat_lt, nat_le, Bool, true, false, ◌&&◌, not, if◌then◌else◌, List, [], ◌∷◌, ◌++◌, length, slice_index, slice_index_or, slice_set, map, replicate, Option, Some, None, find}
 use Rattle.std.specs.List.{list_any, list_all, All}
+use Rattle.kit_rules.specs.Limits.{most_vars}
 use Rattle.kit_rules.specs.Federation.{IsCond, IsAction}
 use Rattle.std.specs.Option.{option_to_list, option_map}
 use Rattle.kit_base.specs.declared.message.Kind.{Kind}
@@ -131,8 +132,8 @@ AreMarked sends marks = (length sends ≤ length marks) × ((k number : ℕ) →
 
 -- what the rules of a federation keep of the limits
 pub record CanRun (lookahead : ℕ) (r : Rule) : Type 0 where
-  pub conds : All (IsCond 8) r.conds
-  pub actions : All (IsAction 256 8 (Some lookahead)) r.actions
+  pub conds : All (IsCond most_vars) r.conds
+  pub actions : All (IsAction 256 most_vars (Some lookahead)) r.actions
 
 -- where the rules of a federate run, at a time and with a value
 abbrev pub scene_of : Parts → ℕ → ℕ → ℕ → Scene
@@ -144,7 +145,7 @@ state_after p federate on now value s = after_rules (scene_of p federate now val
 
 -- the variables in the order of the file, and 0 in the places that are left
 abbrev pub opening_vars : List Var → List ℕ
-opening_vars vars = map (λ (v : Var). v.value) vars ++ replicate (8 - length vars) 0
+opening_vars vars = map (λ (v : Var). v.value) vars ++ replicate (most_vars - length vars) 0
 
 -- the state of a federate that has run nothing
 abbrev pub opening_state : Federate → State

@@ -1,4 +1,5 @@
 ghost use Rattle.std.specs.Prelude.{◌≡◌, ◌<◌, ◌≤◌, ◌^◌, OnOk, OnErr, All};
+ghost use Rattle.kit_rules.specs.Limits.{most_time, most_vars};
 ghost use Rattle.kit_rules.specs.Federation.{IsOperand, IsCond, IsAction};
 ghost use Rattle.kit_rules.specs.Step.{value_of, compares, condition_holds, conditions_hold, after_action};
 
@@ -7,7 +8,7 @@ use kit_base::{Kind, Message};
 
 /// The number that an operand stands for.
 fn operand_value(scene: &Scene, vars: &[u32; 8], operand: Operand) -> u32
-    requires operand { IsOperand 8 operand }
+    requires operand { IsOperand most_vars operand }
     requires now { scene.now.time < 2 ^ 32 }
     ensures { result ≡ value_of scene.now vars.now operand }
 {
@@ -35,7 +36,7 @@ fn compare(test: Compare, left: u32, right: u32) -> bool
 
 /// Whether a condition holds.
 fn is_met(scene: &Scene, vars: &[u32; 8], cond: Cond) -> bool
-    requires cond { IsCond 8 cond }
+    requires cond { IsCond most_vars cond }
     requires now { scene.now.time < 2 ^ 32 }
     ensures { result ≡ condition_holds scene.now vars.now cond }
 {
@@ -48,7 +49,7 @@ fn is_met(scene: &Scene, vars: &[u32; 8], cond: Cond) -> bool
 
 /// Whether all of the conditions hold.
 pub(crate) fn are_met(scene: &Scene, vars: &[u32; 8], conds: &[Cond]) -> bool
-    requires conds { All (IsCond 8) conds.now }
+    requires conds { All (IsCond most_vars) conds.now }
     requires now { scene.now.time < 2 ^ 32 }
     ensures { result ≡ conditions_hold scene.now vars.now conds.now }
 {
@@ -69,8 +70,8 @@ fn send(
     value: Operand,
     keep: Option<u8>,
 ) -> Result<(), ApplyEnd>
-    requires time { scene.now.time ≤ 100000 }
-    requires fits { IsAction 256 8 (Some scene.now.lookahead) (Action.Send group delay value keep) }
+    requires time { scene.now.time ≤ most_time }
+    requires fits { IsAction 256 most_vars (Some scene.now.lookahead) (Action.Send group delay value keep) }
     ensures ok { OnOk result (state.new ≡ after_action scene.now state.old (Action.Send group delay value keep)) }
     ensures err { OnErr result (state.new ≡ state.old) }
     ensures spent { result ≡ Err ApplyEnd.SendsSpent → 16384 < state.old.next }
@@ -94,8 +95,8 @@ fn send(
 
 /// Does an action.
 pub(crate) fn act(scene: &Scene, state: &mut FedState, action: Action) -> Result<(), ApplyEnd>
-    requires time { scene.now.time ≤ 100000 }
-    requires fits { IsAction 256 8 (Some scene.now.lookahead) action }
+    requires time { scene.now.time ≤ most_time }
+    requires fits { IsAction 256 most_vars (Some scene.now.lookahead) action }
     ensures ok { OnOk result (state.new ≡ after_action scene.now state.old action) }
     ensures err { OnErr result (state.new ≡ state.old) }
     ensures spent { result ≡ Err ApplyEnd.SendsSpent → 16385 < (after_action scene.now state.old action).next }

@@ -1,5 +1,6 @@
 ghost use Rattle.std.specs.Prelude.{◌≡◌, ℕ, true, false, ◌<◌, ◌≤◌, ◌+◌, [], ◌∷◌, ◌++◌, length, take, drop, slice_index, slice_set, OnOk, OnErr, All};
 ghost use Rattle.std.specs.List.{list_any};
+ghost use Rattle.kit_rules.specs.Limits.{most_time, most_vars};
 ghost use Rattle.kit_rules.specs.Parts.{federate_at};
 ghost use Rattle.kit_rules.specs.Step.{is_event, takes_back, after_action, after_rules, CanRun, opening_state, opening_vars};
 
@@ -74,6 +75,15 @@ impl FedState {
         self.state.next
     }
 
+    /// Does nothing: it says that the next number is one more than were sent, and no more than 16,385.
+    pub fn keeps_its_count(&self)
+        ensures counted { self.now.next ≡ length self.now.sends + 1 }
+        ensures room { self.now.next ≤ 16385 }
+    {
+        // To read a field is to learn the count.
+        let _next = self.state.next;
+    }
+
     /// All that was sent, in the order of the numbers.
     pub fn sends(&self) -> &[Message]
         ensures sends { result.now ≡ self.now.sends }
@@ -84,7 +94,7 @@ impl FedState {
 
     /// Gives a variable a value.
     pub(crate) fn set_var(&mut self, var: u8, value: u32)
-        requires { var < 8 }
+        requires { var < most_vars }
         ensures { self.new ≡ record self.old { vars = slice_set self.old.vars var value } }
     {
         self.state.vars[var as usize] = value;
@@ -128,8 +138,8 @@ impl FedState {
 
     /// Takes back the own Event whose number a variable has, where that may still be done.
     pub(crate) fn retract(&mut self, scene: &Scene, var: u8) -> Result<(), ApplyEnd>
-        requires time { scene.now.time ≤ 100000 }
-        requires fits { var < 8 }
+        requires time { scene.now.time ≤ most_time }
+        requires fits { var < most_vars }
         ensures ok { OnOk result (self.new ≡ after_action scene.now self.old (Action.Retract var)) }
         ensures err { OnErr result (self.new ≡ self.old) }
         ensures spent { result ≡ Err ApplyEnd.SendsSpent → 16385 < (after_action scene.now self.old (Action.Retract var)).next }
@@ -162,7 +172,7 @@ impl FedState {
         rules: &[Rule],
         sends: &mut Vec<Message>,
     ) -> Result<(), ApplyEnd>
-        requires time { scene.now.time ≤ 100000 }
+        requires time { scene.now.time ≤ most_time }
         requires rules { All (CanRun scene.now.lookahead) rules.now }
         ensures state { OnOk result (self.new ≡ after_rules scene.now on self.old rules.now) }
         ensures sends { OnOk result (sends.new.items ≡ sends.old.items ++ drop (length self.old.sends) self.new.sends) }
@@ -219,7 +229,7 @@ fn run_rules(
     kept: usize,
     sends: &mut Vec<Message>,
 ) -> Result<(), ApplyEnd>
-    requires time { scene.now.time ≤ 100000 }
+    requires time { scene.now.time ≤ most_time }
     requires rules { All (CanRun scene.now.lookahead) rules.now }
     requires room { state.old.next ≤ 16385 }
     requires kept { kept ≡ length state.old.sends }
@@ -237,7 +247,7 @@ fn run_rules(
 
 /// The values of the variables before anything ran, and 0 in the places that are left.
 fn opening_values(vars: &[Var]) -> [u32; 8]
-    requires { length vars.now ≤ 8 }
+    requires { length vars.now ≤ most_vars }
     ensures { result ≡ opening_vars vars.now }
 {
     let mut values = [0; 8];

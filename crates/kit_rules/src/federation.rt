@@ -1,5 +1,6 @@
-ghost use Rattle.std.specs.Prelude.{◌≡◌, ◌<◌, ◌≤◌, length};
+ghost use Rattle.std.specs.Prelude.{◌≡◌, ◌+◌, ◌<◌, ◌≤◌, length};
 ghost use Rattle.kit_rules.specs.Federation.{IsFederation};
+ghost use Rattle.kit_rules.specs.Limits.{most_time, most_buffers, most_federates};
 ghost use Rattle.kit_rules.specs.Parts.{federate_at, group_at, effective_lookahead};
 
 use crate::{Federate, Group};
@@ -57,11 +58,20 @@ impl Federation {
         }
     }
 
+    /// Does nothing: it says that a federation keeps its limits.
+    pub fn keeps_its_limits(&self)
+        ensures { IsFederation self.now }
+    {
+        // To read a field is to learn the limits.
+        let _end = self.end;
+    }
+
     /// The end time, in logical time, at which each federate's last grant comes.
     pub fn end(&self) -> u64
         ensures value { result ≡ self.now.end }
         ensures low { 1 ≤ result }
-        ensures high { result ≤ 100000 }
+        ensures high { result ≤ most_time }
+        ensures sound { IsFederation self.now }
     {
         self.end
     }
@@ -70,7 +80,8 @@ impl Federation {
     pub fn buffers(&self) -> u16
         ensures value { result ≡ self.now.buffers }
         ensures low { 1 ≤ result }
-        ensures high { result ≤ 1024 }
+        ensures high { result ≤ most_buffers }
+        ensures sound { IsFederation self.now }
     {
         self.buffers
     }
@@ -79,7 +90,7 @@ impl Federation {
     pub fn count(&self) -> u8
         ensures value { result ≡ length self.now.federates }
         ensures low { 1 ≤ result }
-        ensures high { result ≤ 16 }
+        ensures high { result ≤ most_federates }
         ensures sound { IsFederation self.now }
     {
         self.federates.len() as u8
@@ -109,7 +120,7 @@ impl Federation {
         requires { i < length self.now.federates }
         ensures value { result ≡ effective_lookahead self.now i }
         ensures low { 1 ≤ result }
-        ensures high { result ≤ 100001 }
+        ensures high { result ≤ most_time + 1 }
     {
         match self.federate(i).lookahead {
             Some(lookahead) => lookahead,
@@ -120,14 +131,16 @@ impl Federation {
     /// The group of a number.
     pub fn group(&self, g: u8) -> &Group
         requires { g < length self.now.groups }
-        ensures { result.now ≡ group_at self.now g }
+        ensures value { result.now ≡ group_at self.now g }
+        ensures sound { IsFederation self.now }
     {
         &self.groups.as_slice()[g as usize]
     }
 
     /// The groups, in the order of their numbers.
     pub fn groups(&self) -> &[Group]
-        ensures { result.now ≡ self.now.groups }
+        ensures items { result.now ≡ self.now.groups }
+        ensures sound { IsFederation self.now }
     {
         self.groups.as_slice()
     }

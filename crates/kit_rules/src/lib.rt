@@ -18,11 +18,18 @@ mod tests;
 pub use delivery::{is_member, receivers, transported};
 pub use fed_state::FedState;
 pub use federation::Federation;
-pub use laws::{lookaheads_are_positive, only_regulating_send, sends_keep_lookahead};
-pub use limits::{Named, obeys};
-pub use name::Name;
+pub use laws::{
+    dues_by_the_least, lookaheads_are_positive, names_are_tested, only_regulating_send,
+    sends_keep_lookahead,
+};
+pub use limits::{
+    MOST_ACTIONS, MOST_BUFFERS, MOST_CONDS, MOST_FEDERATES, MOST_GROUPS, MOST_RULES, MOST_TIME,
+    MOST_VARS, Named, obeys,
+};
+pub use name::{MOST_NAME_BYTES, Name, is_name};
 pub use running::apply;
-pub use scene::{ApplyEnd, Scene, State};
+use scene::Scene;
+pub use scene::{ApplyEnd, State};
 pub use table::{
     Action, Compare, Cond, Federate, Group, Operand, Request, Rule, Trigger, Var, Wish,
 };

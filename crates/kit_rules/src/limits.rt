@@ -1,25 +1,38 @@
 ghost use Rattle.std.specs.Prelude.{◌≡◌, ◌≢◌, ◌↔◌, ◌<◌, ◌≤◌, List, ℕ, IsTrue, IfSome, IsSomeAnd, All, AllPairs, length};
-ghost use Rattle.kit_rules.specs.Federation.{IsFederation, IsNameByte, IsName, IsStep, IsWish, IsOperand, IsTrigger, IsCond, IsAction, IsRule, IsFederate, IsGroup, AreVars, AreGroups, AreFederates};
+ghost use Rattle.kit_rules.specs.Federation.{IsFederation, IsStep, IsWish, IsOperand, IsTrigger, IsCond, IsAction, IsRule, IsFederate, IsGroup, AreVars, AreGroups, AreFederates};
+ghost use Rattle.kit_rules.specs.Limits.{most_federates};
 
+use crate::name::is_name;
 use crate::{Action, Cond, Federate, Group, Name, Operand, Rule, Trigger, Var, Wish};
 
-fn is_name_byte(b: u8) -> bool
-    ensures { IsTrue result ↔ IsNameByte b }
-{
-    b.is_ascii_lowercase() || b.is_ascii_uppercase() || b.is_ascii_digit() || b == b'_' || b == b'-'
-}
+/// The latest end time, and the greatest lookahead, step and delay, in logical time.
+pub const MOST_TIME: u64 = 100_000;
 
-fn is_name(name: &Name) -> bool
-    ensures { IsTrue result ↔ IsName name.now }
-{
-    let bytes = name.bytes();
-    !bytes.is_empty() && bytes.len() <= 16 && bytes.iter().all(|b| is_name_byte(*b))
-}
+/// The most buffers that each federate has.
+pub const MOST_BUFFERS: u64 = 1024;
+
+/// The most federates of a federation.
+pub const MOST_FEDERATES: usize = 16;
+
+/// The most groups of a federation.
+pub const MOST_GROUPS: usize = 32;
+
+/// The most variables of a federate.
+pub const MOST_VARS: usize = 8;
+
+/// The most rules of a federate.
+pub const MOST_RULES: usize = 64;
+
+/// The most conditions of a rule.
+pub const MOST_CONDS: usize = 8;
+
+/// The most actions of a rule.
+pub const MOST_ACTIONS: usize = 16;
 
 fn is_step(step: u64) -> bool
     ensures { IsTrue result ↔ IsStep step }
 {
-    1 <= step && step <= 100_000
+    1 <= step && step <= MOST_TIME
 }
 
 fn is_wish(wish: Wish) -> bool
@@ -88,7 +101,7 @@ fn is_action(groups: usize, vars: usize, lookahead: Option<u32>, action: Action)
         } => {
             (group as usize) < groups
                 && is_delay(lookahead, delay)
-                && delay <= 100_000
+                && delay as u64 <= MOST_TIME
                 && is_operand(vars, value)
                 && is_kept(vars, keep)
         }
@@ -102,9 +115,9 @@ fn is_rule(groups: usize, vars: usize, lookahead: Option<u32>, rule: &Rule) -> b
     ensures { IsTrue result ↔ IsRule groups vars lookahead rule.now }
 {
     is_trigger(groups, rule.on)
-        && rule.conds.len() <= 8
+        && rule.conds.len() <= MOST_CONDS
         && rule.conds.as_slice().iter().all(|c| is_cond(vars, *c))
-        && rule.actions.len() <= 16
+        && rule.actions.len() <= MOST_ACTIONS
         && rule
             .actions
             .as_slice()
@@ -173,7 +186,7 @@ fn names_differ<T: Named>(items: &[T]) -> bool
 fn are_vars(vars: &[Var]) -> bool
     ensures { IsTrue result ↔ AreVars vars.now }
 {
-    vars.len() <= 8 && vars.iter().all(|v| is_name(&v.name)) && names_differ(vars)
+    vars.len() <= MOST_VARS && vars.iter().all(|v| is_name(v.name.bytes())) && names_differ(vars)
 }
 
 fn are_rules(groups: usize, federate: &Federate) -> bool
@@ -199,32 +212,34 @@ fn is_lookahead(lookahead: Option<u32>) -> bool
 fn is_federate(groups: usize, federate: &Federate) -> bool
     ensures { IsTrue result ↔ IsFederate groups federate.now }
 {
-    is_name(&federate.name)
+    is_name(federate.name.bytes())
         && is_lookahead(federate.lookahead)
         && is_wish(federate.advance)
         && are_vars(federate.vars.as_slice())
-        && federate.rules.len() <= 64
+        && federate.rules.len() <= MOST_RULES
         && are_rules(groups, federate)
 }
 
 fn is_group(federates: usize, group: &Group) -> bool
-    requires { federates ≤ 16 }
+    requires { federates ≤ most_federates }
     ensures { IsTrue result ↔ IsGroup federates group.now }
 {
-    is_name(&group.name) && (group.members as u32) < 1u32 << federates
+    is_name(group.name.bytes()) && (group.members as u32) < 1u32 << federates
 }
 
 fn are_groups(federates: usize, groups: &[Group]) -> bool
-    requires { federates ≤ 16 }
+    requires { federates ≤ most_federates }
     ensures { IsTrue result ↔ AreGroups federates groups.now }
 {
-    groups.len() <= 32 && groups.iter().all(|g| is_group(federates, g)) && names_differ(groups)
+    groups.len() <= MOST_GROUPS
+        && groups.iter().all(|g| is_group(federates, g))
+        && names_differ(groups)
 }
 
 fn is_count(n: usize) -> bool
-    ensures { IsTrue result ↔ ((1 ≤ n) × (n ≤ 16)) }
+    ensures { IsTrue result ↔ ((1 ≤ n) × (n ≤ most_federates)) }
 {
-    1 <= n && n <= 16
+    1 <= n && n <= MOST_FEDERATES
 }
 
 fn are_federates(groups: usize, federates: &[Federate]) -> bool
@@ -255,7 +270,7 @@ pub fn obeys(end: u64, buffers: u16, groups: &[Group], federates: &[Federate]) -
 {
     is_step(end)
         && 1 <= buffers
-        && buffers <= 1024
+        && buffers as u64 <= MOST_BUFFERS
         && are_federates(groups.len(), federates)
         && are_groups(federates.len(), groups)
 }

@@ -1,4 +1,5 @@
 ghost use Rattle.std.specs.Prelude.{◌≡◌, ◌<◌, ◌≤◌, ◌++◌, length, take, drop, OnOk, OnErr, All};
+ghost use Rattle.kit_rules.specs.Limits.{most_time, most_vars};
 ghost use Rattle.kit_rules.specs.Federation.{IsAction};
 ghost use Rattle.kit_rules.specs.Step.{after_actions, after_rule, after_rules, same_trigger, CanRun, state_after};
 
@@ -8,8 +9,8 @@ use kit_base::Message;
 
 /// Does the actions of a rule, in order.
 fn act_all(scene: &Scene, state: &mut FedState, actions: &[Action]) -> Result<(), ApplyEnd>
-    requires time { scene.now.time ≤ 100000 }
-    requires fits { All (IsAction 256 8 (Some scene.now.lookahead)) actions.now }
+    requires time { scene.now.time ≤ most_time }
+    requires fits { All (IsAction 256 most_vars (Some scene.now.lookahead)) actions.now }
     requires room { state.old.next ≤ 16385 }
     ensures ok { OnOk result (state.new ≡ after_actions scene.now state.old actions.now) }
     ensures kept { take (length state.old.sends) state.new.sends ≡ state.old.sends }
@@ -24,7 +25,7 @@ fn act_all(scene: &Scene, state: &mut FedState, actions: &[Action]) -> Result<()
 
 /// Does what a rule says, where its trigger is this one and its conditions hold.
 fn apply_rule(scene: &Scene, on: Trigger, state: &mut FedState, rule: &Rule) -> Result<(), ApplyEnd>
-    requires time { scene.now.time ≤ 100000 }
+    requires time { scene.now.time ≤ most_time }
     requires rule { CanRun scene.now.lookahead rule.now }
     requires room { state.old.next ≤ 16385 }
     ensures ok { OnOk result (state.new ≡ after_rule scene.now on state.old rule.now) }
@@ -57,7 +58,7 @@ pub(crate) fn apply_rules(
     state: &mut FedState,
     rules: &[Rule],
 ) -> Result<(), ApplyEnd>
-    requires time { scene.now.time ≤ 100000 }
+    requires time { scene.now.time ≤ most_time }
     requires rules { All (CanRun scene.now.lookahead) rules.now }
     requires room { state.old.next ≤ 16385 }
     ensures ok { OnOk result (state.new ≡ after_rules scene.now on state.old rules.now) }

@@ -35,11 +35,13 @@ pub struct State {
 }
 
 /// Why rules were not applied.
-#[derive(Clone, Copy, Debug, PartialEq, Eq)]
+#[derive(Clone, Copy, Debug, PartialEq, Eq, thiserror::Error)]
 pub enum ApplyEnd {
     /// A message would have taken number 16,385.
+    #[error("a federate has sent 16,384 messages, and has no number for one more")]
     SendsSpent,
     /// There was no memory.
+    #[error("memory ran out")]
     NoMemory,
 }
 

@@ -1,5 +1,9 @@
 //! What a federation's file says: groups, federates, and their rules.
 
+ghost use Rattle.std.specs.Prelude.{◌≡◌};
+ghost use Rattle.kit_rules.specs.Delivery.{request_due};
+ghost use Rattle.kit_rules.specs.Simulation.{request_at};
+
 use crate::Name;
 use kit_base::Items;
 
@@ -20,6 +24,31 @@ pub enum Request {
     Tar(u64),
     /// HLA 1.3's Next Event Request: it is due at its time, or at that of an earlier pending message.
     Ner(u64),
+}
+
+impl Wish {
+    /// The request that it makes at a time, where the federation ends at this time: to now and the
+    /// step, or to the end where that is sooner.
+    pub fn request(self, now: u64, end: u64) -> Request
+        ensures { result ≡ request_at self now end }
+    {
+        match self {
+            Wish::Tar(step) => Request::Tar(now.saturating_add(step as u64).min(end)),
+            Wish::Ner(step) => Request::Ner(now.saturating_add(step as u64).min(end)),
+        }
+    }
+}
+
+impl Request {
+    /// When it is due, where the least time of a pending message is this, or none is pending.
+    pub fn due(self, least: Option<u64>) -> u64
+        ensures { result ≡ request_due self least }
+    {
+        match (self, least) {
+            (Request::Tar(time), _) | (Request::Ner(time), None) => time,
+            (Request::Ner(time), Some(least)) => time.min(least),
+        }
+    }
 }
 
 /// A number that a rule reads when its turn comes.

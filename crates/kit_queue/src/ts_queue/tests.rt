@@ -18,7 +18,7 @@ fn add<Q: Order>(queue: &mut Q, entry: Entry) -> Result<bool, AllocError>
     Ok(true)
 }
 
-fn filled<Q: Order + Drop>(alloc: Global, entries: &[Entry]) -> Result<Q, AllocError> {
+fn filled<Q: Order>(alloc: Global, entries: &[Entry]) -> Result<Q, AllocError> {
     let mut queue = Q::empty(alloc);
     queue.reserve(entries.len())?;
     for entry in entries {

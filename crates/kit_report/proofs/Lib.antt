@@ -1,0 +1,4 @@
+pub mod InMerge
+pub mod MergeStates
+pub mod Soonest
+pub mod Taking
