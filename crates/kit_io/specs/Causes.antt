@@ -1,5 +1,5 @@
 -- When a call may answer that it failed, and what it took until then.
-use Rattle.std.specs.Prelude.{◌≡◌, ℕ, ◌+◌, ◌-◌, ◌^◌, ◌≤◌, ◌<◌, min, List, length, drop, if◌then◌else◌, is_ok, Option, Some, Result, Ok, OnErr, IfSome}
+use Rattle.std.specs.Prelude.{◌≡◌, ℕ, ◌+◌, ◌-◌, ◌^◌, ◌≤◌, min, List, length, drop, if◌then◌else◌, is_ok, Option, Some, Result, OnErr, IfSome}
 
 -- the count of faults rose, or stands at its last value, which is taken as one that rose
 abbrev pub Rose : ℕ → ℕ → Type 0
@@ -13,10 +13,6 @@ pub record HasCause {T E : Type 0} (before now : ℕ) (result : Result T E) : Ty
 -- the count rises by one at an error, and at nothing else
 abbrev pub CountsFault : {T E : Type 0} → ℕ → ℕ → Result T E → Type 0
 CountsFault before now result = now ≡ (if is_ok result then before else min (before + 1) (2 ^ 64 - 1))
-
--- the call showed the end of the input
-abbrev pub ShowsEnd : {E : Type 0} → Result ℕ E → List ℕ → Type 0
-ShowsEnd result buf = (result ≡ Ok 0) × (0 < length buf)
 
 -- where the bytes that were left are told: the first n of them were taken
 abbrev pub Took : Option (List ℕ) → Option (List ℕ) → ℕ → Type 0

@@ -1,2 +1,4 @@
 pub mod Causes
 pub mod Pace
+pub mod Memory
+pub mod Reading

@@ -1,5 +1,5 @@
-//! Sources of bytes and sinks for them, each with a count of its faults, and the calls that read a source to its end
-//! and write a text whole.
+//! Sources of bytes and sinks for them, each with a count of its faults, and the calls that read a
+//! source to its end and write a text whole.
 #![tactic(auto)]
 
 mod memory;

@@ -1,10 +1,8 @@
-ghost use Rattle.std.specs.Prelude.{◌≡◌, ◌↔◌, ◌⊎◌, ◌≤◌, ◌<◌, ◌+◌, ◌-◌, ◌^◌, min, ℕ, List, [], Bool, false, IsTrue, Option, Some, Contains, is_some, length, drop, IfOk, IsErr, vec_capacity};
-ghost use Rattle.std.specs.Io.{ReadsAtMost, WritesAtMost};
-ghost use Rattle.std.specs.Io.KnownBytes.{ReadConsumes, WriteAppends};
-ghost use Rattle.kit_io.specs.Causes.{CountsFault, HasCause, ShowsEnd};
+ghost use Rattle.std.specs.Prelude.{◌≡◌, ◌↔◌, ◌≤◌, ◌+◌, ◌-◌, ◌^◌, min, IsTrue, Some, [], IfOk};
 
 use crate::{Failed, Sink, Source};
 use std::alloc::{AllocError, Global};
+use std::marker::Model;
 
 // How many bytes a call moves at most, and which calls fail.
 #[derive(Debug, Drop)]
@@ -17,11 +15,11 @@ struct Schedule {
 }
 
 impl Schedule {
-    ghost use Rattle.kit_io.specs.Pace.{pace, after_call, IsListed};
+    ghost use Rattle.kit_io.specs.Pace.{pace_of, pace_after_call, IsListed};
 
     fn new(most: usize, fail: Vec<u64>) -> Schedule
         requires { 1 ≤ most }
-        ensures start { pace result ≡ record { most = most; fail = fail.items; call = 0 } }
+        ensures start { pace_of result ≡ record { most = most; fail = fail.items; call = 0 } }
         ensures faults { result.faults ≡ 0 }
     {
         Schedule {
@@ -34,8 +32,8 @@ impl Schedule {
 
     // Counts a call, and says whether it is to fail.
     fn begin(&mut self) -> bool
-        ensures listed { IsTrue result ↔ IsListed (pace self.old) }
-        ensures next { pace self.new ≡ after_call (pace self.old) }
+        ensures listed { IsTrue result ↔ IsListed (pace_of self.old) }
+        ensures next { pace_of self.new ≡ pace_after_call (pace_of self.old) }
         ensures faults { self.new.faults ≡ self.old.faults }
     {
         let call = self.calls;
@@ -45,7 +43,7 @@ impl Schedule {
 
     // Counts a fault.
     fn fault(&mut self) -> Failed
-        ensures same { pace self.new ≡ pace self.old }
+        ensures same { pace_of self.new ≡ pace_of self.old }
         ensures faults { self.new.faults ≡ min (self.old.faults + 1) (2 ^ 64 - 1) }
         ensures later { self.old.faults ≤ self.new.faults }
     {
@@ -60,55 +58,51 @@ pub struct MemorySource {
     bytes: Vec<u8>,
     at: usize,
     schedule: Schedule,
-    ended: bool,
-    ghost within: { at ≤ length bytes.items },
+}
+
+impl Model for MemorySource {
+    ghost use Rattle.std.specs.Prelude.{◌≤◌, length, drop};
+    ghost use Rattle.kit_io.specs.Memory.{MemoryInput};
+    ghost use Rattle.kit_io.specs.Pace.{pace_of};
+
+    ghost Value = { MemoryInput };
+
+    ghost view = { λ s. record {
+      left = drop s.at s.bytes.items;
+      pace = pace_of s.schedule;
+      faults = s.schedule.faults;
+    } };
+
+    ghost invariant = { λ s. s.at ≤ length s.bytes.items };
 }
 
 impl MemorySource {
-    ghost use Rattle.kit_io.specs.Pace.{source_pace};
-
-    /// The source of these bytes, which gives at most `most` of them at a call, and fails at the calls whose numbers,
-    /// counted from 0, stand in `fail`.
+    /// The source of these bytes, which gives at most `most` of them at a call, and fails at the
+    /// calls whose numbers, counted from 0, stand in `fail`.
     pub fn new(bytes: Vec<u8>, most: usize, fail: Vec<u64>) -> MemorySource
         requires { 1 ≤ most }
-        ensures left { ⟦<MemorySource as Source>⟧.left result ≡ Some bytes.items }
-        ensures faults { ⟦<MemorySource as Source>⟧.faults result ≡ 0 }
-        ensures ended { ⟦<MemorySource as Source>⟧.ended result ≡ false }
-        ensures pace { source_pace result ≡ record { most = most; fail = fail.items; call = 0 } }
+        ensures left { result.left ≡ bytes.items }
+        ensures pace { result.pace ≡ record { most = most; fail = fail.items; call = 0 } }
+        ensures faults { result.faults ≡ 0 }
     {
         MemorySource {
             bytes,
             at: 0,
             schedule: Schedule::new(most, fail),
-            ended: false,
         }
     }
 }
 
 impl Source for MemorySource {
-    ghost use Rattle.kit_io.specs.Pace.{source_pace, left_of, moved, after_call, IsListed};
+    ghost use Rattle.kit_io.specs.Memory.{IsMemoryRead};
 
-    ghost left = { λ s. Some (left_of s) };
+    ghost left = { λ s. Some s.left };
 
-    ghost faults = { λ s. s.schedule.faults };
+    ghost faults = { λ s. s.faults };
 
-    ghost ended = { λ s. s.ended };
+    ghost read_gives = { IsMemoryRead };
 
-    fn read(&mut self, into: &mut [u8]) -> Result<usize, Failed>
-        ensures bound { ReadsAtMost result into.new }
-        ensures bytes { ReadConsumes (Some (left_of self.old)) (Some (left_of self.new)) result into.new }
-        ensures end { IsTrue (⟦<MemorySource as Source>⟧.ended self.new) ↔ ShowsEnd result into.new }
-        ensures cause { HasCause (⟦<MemorySource as Source>⟧.faults self.old)
-            (⟦<MemorySource as Source>⟧.faults self.new) result }
-
-        // Which calls fail, and how many bytes the others give.
-        ensures fails { IsErr result ↔ IsListed (source_pace self.old) }
-        ensures gives { IfOk result (λ n. n ≡ moved (source_pace self.old) (length (left_of self.old)) (length into.new)) }
-        ensures pace { source_pace self.new ≡ after_call (source_pace self.old) }
-        ensures counts { CountsFault (⟦<MemorySource as Source>⟧.faults self.old)
-            (⟦<MemorySource as Source>⟧.faults self.new) result }
-    {
-        self.ended = false;
+    fn read(&mut self, into: &mut [u8]) -> Result<usize, Failed> {
         if self.schedule.begin() {
             return Err(self.schedule.fault());
         }
@@ -116,7 +110,6 @@ impl Source for MemorySource {
         let count = left.min(self.schedule.most).min(into.len());
         into[..count].copy_from_slice(&self.bytes[self.at..self.at + count]);
         self.at += count;
-        self.ended = count == 0 && !into.is_empty();
         Ok(count)
     }
 }
@@ -127,15 +120,28 @@ pub struct MemorySink {
     bytes: Vec<u8>,
     room: usize,
     schedule: Schedule,
-    ghost within: { length bytes.items ≤ room },
-    ghost reserved: { room ≤ vec_capacity bytes },
+}
+
+impl Model for MemorySink {
+    ghost use Rattle.std.specs.Prelude.{◌≤◌, length, vec_capacity};
+    ghost use Rattle.kit_io.specs.Memory.{MemoryOutput};
+    ghost use Rattle.kit_io.specs.Pace.{pace_of};
+
+    ghost Value = { MemoryOutput };
+
+    ghost view = { λ s. record {
+      held = s.bytes.items;
+      room = s.room;
+      pace = pace_of s.schedule;
+      faults = s.schedule.faults;
+    } };
+
+    ghost invariant = { λ s. (length s.bytes.items ≤ s.room) × (s.room ≤ vec_capacity s.bytes) };
 }
 
 impl MemorySink {
-    ghost use Rattle.kit_io.specs.Pace.{sink_pace, room_of};
-
-    /// An empty sink for `room` bytes, which takes at most `most` of them at a call, and fails at the calls whose
-    /// numbers, counted from 0, stand in `fail`. All of its memory is taken here.
+    /// An empty sink for `room` bytes, which takes at most `most` of them at a call, and fails at
+    /// the calls whose numbers, counted from 0, stand in `fail`. All of its memory is taken here.
     pub fn new(
         alloc: Global,
         room: usize,
@@ -143,10 +149,11 @@ impl MemorySink {
         fail: Vec<u64>,
     ) -> Result<MemorySink, AllocError>
         requires { 1 ≤ most }
-        ensures holds { IfOk result (λ s. ⟦<MemorySink as Sink>⟧.holds s ≡ Some []) }
-        ensures faults { IfOk result (λ s. ⟦<MemorySink as Sink>⟧.faults s ≡ 0) }
-        ensures room { IfOk result (λ s. room_of s ≡ room) }
-        ensures pace { IfOk result (λ s. sink_pace s ≡ record { most = most; fail = fail.items; call = 0 }) }
+        ensures held { IfOk result (λ s. s.held ≡ []) }
+        ensures room { IfOk result (λ s. s.room ≡ room) }
+        ensures pace { IfOk result (λ s.
+            s.pace ≡ record { most = most; fail = fail.items; call = 0 }) }
+        ensures faults { IfOk result (λ s. s.faults ≡ 0) }
     {
         let bytes = Vec::with_capacity(alloc, room)?;
         let schedule = Schedule::new(most, fail);
@@ -159,36 +166,22 @@ impl MemorySink {
 
     /// What it holds.
     pub fn held(&self) -> &[u8]
-        ensures { ⟦<MemorySink as Sink>⟧.holds self.now ≡ Some result.now }
+        ensures { result.now ≡ self.now.held }
     {
         &self.bytes
     }
 }
 
 impl Sink for MemorySink {
-    ghost use Rattle.kit_io.specs.Pace.{sink_pace, held_by, room_of, moved, after_call, IsListed};
+    ghost use Rattle.kit_io.specs.Memory.{IsMemoryWrite};
 
-    ghost holds = { λ s. Some (held_by s) };
+    ghost holds = { λ s. Some s.held };
 
-    ghost faults = { λ s. s.schedule.faults };
+    ghost faults = { λ s. s.faults };
 
-    fn write(&mut self, from: &[u8]) -> Result<usize, Failed>
-        ensures bound { WritesAtMost result from.now }
-        ensures some { IfOk result (λ n. 0 < length from.now → 0 < n) }
-        ensures bytes { WriteAppends (Some (held_by self.old)) (Some (held_by self.new)) result from.now }
-        ensures cause { HasCause (⟦<MemorySink as Sink>⟧.faults self.old)
-            (⟦<MemorySink as Sink>⟧.faults self.new) result }
+    ghost write_gives = { IsMemoryWrite };
 
-        // A call that is not to fail takes what there is room for, and fails where that is nothing of something.
-        ensures fails { IsErr result ↔ (IsListed (sink_pace self.old) ⊎
-            ((0 < length from.now) × (length (held_by self.old) ≡ room_of self.old))) }
-        ensures takes { IfOk result (λ n. n ≡ moved (sink_pace self.old) (length from.now)
-            (room_of self.old - length (held_by self.old))) }
-        ensures room { room_of self.new ≡ room_of self.old }
-        ensures pace { sink_pace self.new ≡ after_call (sink_pace self.old) }
-        ensures counts { CountsFault (⟦<MemorySink as Sink>⟧.faults self.old)
-            (⟦<MemorySink as Sink>⟧.faults self.new) result }
-    {
+    fn write(&mut self, from: &[u8]) -> Result<usize, Failed> {
         let failing = self.schedule.begin();
         let free = self.room - self.bytes.len();
         let count = from.len().min(self.schedule.most).min(free);

@@ -93,6 +93,8 @@ impl Sink for Recorder {
 
     ghost faults = { λ s. s.faults };
 
+    ghost write_gives = { λ _ _ _ _. Unit {0} };
+
     fn write(&mut self, from: &[u8]) -> Result<usize, Failed> {
         if self.lengths.push(from.len()).is_err() {
             self.faults = self.faults.saturating_add(1);

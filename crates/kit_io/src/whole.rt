@@ -1,6 +1,8 @@
-ghost use Rattle.std.specs.Prelude.{◌≡◌, ◌↔◌, ◌≤◌, ◌<◌, ◌+◌, ℕ, List, [], IsTrue, Some, is_some, length, take, drop, IfOk, OnOk, OnErr, IfSome, IsErrOf};
+ghost use Rattle.std.specs.Prelude.{◌≡◌, ◌≤◌, ◌<◌, ◌+◌, ℕ, List, [], Some, is_some};
+ghost use Rattle.std.specs.Prelude.{length, take, drop, IfOk, OnOk, OnErr, IfSome, IsErrOf};
 ghost use Rattle.std.specs.Io.KnownBytes.{ReadConsumes, Appends};
-ghost use Rattle.kit_io.specs.Causes.{HasCause, Rose, ShowsEnd, Took, TookAtMost};
+ghost use Rattle.kit_io.specs.Causes.{HasCause, Rose, Took, TookAtMost};
+ghost use Rattle.kit_io.specs.Reading.{ShowsEnd};
 
 use crate::{Failed, Sink, Source};
 use std::alloc::Global;
@@ -29,10 +31,11 @@ fn read_behind<S: Source>(source: &mut S, buffer: &mut [u8], taken: usize) -> Re
     requires { taken ≤ length buffer.old }
     ensures kept { take taken buffer.new ≡ take taken buffer.old }
     ensures bound { IfOk result (λ n. taken + n ≤ length buffer.old) }
-    ensures bytes { ReadConsumes (S.left source.old) (S.left source.new) result (drop taken buffer.new) }
+    ensures bytes { ReadConsumes (S.left source.old) (S.left source.new) result
+        (drop taken buffer.new) }
     ensures tells { is_some (S.left source.new) ≡ is_some (S.left source.old) }
-    ensures end { IsTrue (S.ended source.new) ↔ ShowsEnd result (drop taken buffer.new) }
     ensures cause { HasCause (S.faults source.old) (S.faults source.new) result }
+    ensures gives { S.read_gives source.old result (drop taken buffer.new) source.new }
 {
     source.read(&mut buffer[taken..])
 }
@@ -50,21 +53,24 @@ fn buffer_for(alloc: Global, limit: usize) -> Result<Vec<u8>, ReadEnd>
 
 /// Reads a source to its end, and gives the bytes.
 ///
-/// All memory is taken before the first read, one buffer of `limit + 1` bytes; at `usize::MAX` there is no such buffer,
-/// and the answer is `NoMemory`.
+/// All memory is taken before the first read, one buffer of `limit + 1` bytes; at `usize::MAX`
+/// there is no such buffer, and the answer is `NoMemory`.
 pub fn read_all<S: Source>(alloc: Global, source: &mut S, limit: usize) -> Result<Vec<u8>, ReadEnd>
-    // Ok: all that was left was taken, it is the result, and the last read showed the end.
+    // Ok: all that was left was taken, it is the result, and a read of this call showed the end.
     ensures bytes { IfOk result (λ v. IfSome (S.left source.old) (λ xs. v.items ≡ xs)) }
     ensures emptied { OnOk result (IfSome (S.left source.old) (λ _. S.left source.new ≡ Some [])) }
     ensures short { IfOk result (λ v. length v.items ≤ limit) }
-    ensures ended { OnOk result (IsTrue (S.ended source.new)) }
+    ensures ended { OnOk result (ShowsEnd S.Source source.new) }
 
     // ReadFault: a read failed, and no more than the limit was taken before.
-    ensures fault { IsErrOf result ReadEnd.ReadFault → Rose (S.faults source.old) (S.faults source.new) }
-    ensures fault_taken { IsErrOf result ReadEnd.ReadFault → TookAtMost (S.left source.old) (S.left source.new) limit }
+    ensures fault { IsErrOf result ReadEnd.ReadFault →
+        Rose (S.faults source.old) (S.faults source.new) }
+    ensures fault_taken { IsErrOf result ReadEnd.ReadFault →
+        TookAtMost (S.left source.old) (S.left source.new) limit }
 
     // TooLong: one byte more than the limit was taken, which happens at no other answer.
-    ensures too_long { IsErrOf result ReadEnd.TooLong → Took (S.left source.old) (S.left source.new) (limit + 1) }
+    ensures too_long { IsErrOf result ReadEnd.TooLong →
+        Took (S.left source.old) (S.left source.new) (limit + 1) }
 
     // NoMemory: nothing was read.
     ensures no_memory { IsErrOf result ReadEnd.NoMemory → source.new ≡ source.old }

@@ -9,13 +9,13 @@ use Rattle.kit_base.specs.declared.message.Message.{Message}
 use Rattle.kit_base.specs.Order.{key_cmp, put, in_order}
 use Rattle.kit_rules.specs.Parts.{Parts}
 use Rattle.kit_rules.specs.Delivery.{is_same, pending_messages, due_messages}
-use Rattle.kit_oracle.specs.Queues.{enter, front, behind}
+use Rattle.kit_oracle.specs.Pending.{queue_with, front_until, rest_after}
 use Rattle.kit_oracle.proofs.Keeping.{same_key}
 use Rattle.kit_oracle.proofs.Ordered.{Up, weaker, none_left}
 use Rattle.kit_oracle.proofs.Fronts.{before, not_before, up_in_order, due_is_front, left_is_back}
 
 -- a message whose key is new is put in its place
-pub enter_new : (m : Message) (xs : List Message) → list_any (is_same m) xs ≡ false → enter m xs ≡ put m xs
+pub enter_new : (m : Message) (xs : List Message) → list_any (is_same m) xs ≡ false → queue_with m xs ≡ put m xs
 enter_new m [] h = refl
 enter_new m (x ∷ xs) h =
     elim (cases_Bool (is_same m x)) [
@@ -29,7 +29,7 @@ enter_new m (x ∷ xs) h =
         (and_from (nat_eq x.time m.time) (nat_eq x.sender m.sender) (eq-eqb x.time m.time (sym s.0)) (eq-eqb x.sender m.sender (sym s.1))) (eq-eqb x.number m.number (sym s.2)) in
         cc
 
-    by_order : (o : Ordering) → (is_eq o ≡ true → ⊥) → enter m xs ≡ put m xs → match_ordering o (m ∷ x ∷ xs) (m ∷ xs) (x ∷ enter m xs) ≡ cond (is_lt o) (m ∷ x ∷ xs) (x ∷ put m xs)
+    by_order : (o : Ordering) → (is_eq o ≡ true → ⊥) → queue_with m xs ≡ put m xs → match_ordering o (m ∷ x ∷ xs) (m ∷ xs) (x ∷ queue_with m xs) ≡ cond (is_lt o) (m ∷ x ∷ xs) (x ∷ put m xs)
     by_order Less f r = refl
     by_order Equal f r = absurd (f refl)
     by_order Greater f r = ap (λ ys. x ∷ ys) r
@@ -41,7 +41,7 @@ late_behind d x xs e u =
     (λ y up. let le : x.time ≤ y.time = not_before y x up in let lt : d < x.time = leb-false x.time d e in lt-leb y.time d (omega arith)) u
 
 -- the front of a list in order is all that is timed d or less
-front_is : (d : ℕ) (xs : List Message) → Up before xs → front d xs ≡ filter (λ (m : Message). nat_le m.time d) xs
+front_is : (d : ℕ) (xs : List Message) → Up before xs → front_until d xs ≡ filter (λ (m : Message). nat_le m.time d) xs
 front_is d [] u = refl
 front_is d (x ∷ xs) u =
     elim (cases_Bool (nat_le x.time d)) [
@@ -55,7 +55,7 @@ all_left t [] h = refl
 all_left t (x ∷ xs) h = rw h.0 (ap (λ ys. x ∷ ys) (all_left t xs h.1))
 
 -- and what is behind it is the rest
-behind_is : (d : ℕ) (xs : List Message) → Up before xs → behind d xs ≡ filter (λ (m : Message). not (nat_le m.time d)) xs
+behind_is : (d : ℕ) (xs : List Message) → Up before xs → rest_after d xs ≡ filter (λ (m : Message). not (nat_le m.time d)) xs
 behind_is d [] u = refl
 behind_is d (x ∷ xs) u =
     elim (cases_Bool (nat_le x.time d)) [
@@ -64,9 +64,9 @@ behind_is d (x ∷ xs) u =
     ]
 
 -- a grant of d delivers the front of what is pending in order
-pub front_is_due : (p : Parts) (i d : ℕ) (got sent : List Message) → front d (in_order (pending_messages p i got sent)) ≡ due_messages p i d got sent
+pub front_is_due : (p : Parts) (i d : ℕ) (got sent : List Message) → front_until d (in_order (pending_messages p i got sent)) ≡ due_messages p i d got sent
 front_is_due p i d got sent = front_is d (in_order (pending_messages p i got sent)) (up_in_order (pending_messages p i got sent)) ∙ sym (due_is_front p i d got sent)
 
 -- and leaves what is behind it
-pub behind_is_left : (p : Parts) (i d : ℕ) (got sent : List Message) → behind d (in_order (pending_messages p i got sent)) ≡ in_order (pending_messages p i (got ++ due_messages p i d got sent) sent)
+pub behind_is_left : (p : Parts) (i d : ℕ) (got sent : List Message) → rest_after d (in_order (pending_messages p i got sent)) ≡ in_order (pending_messages p i (got ++ due_messages p i d got sent) sent)
 behind_is_left p i d got sent = behind_is d (in_order (pending_messages p i got sent)) (up_in_order (pending_messages p i got sent)) ∙ sym (left_is_back p i d got sent)

@@ -11,7 +11,7 @@ use Rattle.kit_rules.specs.Parts.{Parts}
 use Rattle.kit_rules.specs.Step.{is_event}
 use Rattle.kit_base.specs.Order.{key_cmp, is_before, put, in_order}
 use Rattle.kit_rules.specs.Delivery.{is_same, retracts, is_transported, has_bit, receivers_of, is_pending, pending_messages, is_due, due_messages, due_time}
-use Rattle.kit_oracle.specs.Queues.{first_time}
+use Rattle.kit_oracle.specs.Pending.{earliest_time}
 use Rattle.kit_oracle.proofs.Ordered.{key_order, place, arranged, Up, up_arranged, filter_arranged}
 use Rattle.kit_laws.proofs.Pendings.{filter_each, any_filter_here, any_filter_more, same_self, pending_got, pending_front, pending_sent, not_false, any_left, any_right, any_in_order}
 
@@ -82,7 +82,7 @@ earliest_same t [] h = refl
 earliest_same t (m ∷ ms) h = ap (λ n. earliest n ms) (let le : t ≤ m.time = h.0 in let e : min t m.time ≡ t = omega arith in e) ∙ earliest_same t ms h.1
 
 -- of messages in order the first has the least time
-earliest_up : (t : ℕ) (ms : List Message) → Up before ms → earliest t ms ≡ first_time t ms
+earliest_up : (t : ℕ) (ms : List Message) → Up before ms → earliest t ms ≡ earliest_time t ms
 earliest_up t [] u = refl
 earliest_up t (m ∷ ms) u =
     earliest_same (min t m.time) ms (each_weaker (λ (y : Message). before y m ≡ false) (λ (y : Message). min t m.time ≤ y.time) ms (λ y h. let le : m.time ≤ y.time = not_before y m h in omega arith) u.0)
@@ -92,7 +92,7 @@ pub up_in_order : (ms : List Message) → Up before (in_order ms)
 up_in_order ms = let P : List Message → Type 0 = Up before in subst P (sym (order_is [] ms)) (up_arranged before key_order [] ms tt)
 
 -- a request for the next event is due at the first of what is pending in order
-pub due_is_first : (t : ℕ) (ms : List Message) → due_time (request.Ner t) ms ≡ first_time t (in_order ms)
+pub due_is_first : (t : ℕ) (ms : List Message) → due_time (request.Ner t) ms ≡ earliest_time t (in_order ms)
 due_is_first t ms = sym (earliest_arranged t [] ms) ∙ earliest_up t (in_order ms) (up_in_order ms)
 
 -- two tests that agree on a list leave the same of it

@@ -13,8 +13,8 @@ use Rattle.std.proofs.lemmas.Map.Keys.{IsDistinct-from_sorted}
 use Rattle.std.proofs.lemmas.Bool.{and_parts, eqb-true}
 use Rattle.kit_base.specs.declared.message.Message.{Message}
 use Rattle.kit_base.specs.Order.{key_cmp}
-use Rattle.kit_oracle.specs.declared.queue.Key.{Key}
-use Rattle.kit_oracle.specs.Queues.{compare_keys, key_of, enter, front, first_time, has_key, taken_out, AreKeyed}
+use Rattle.kit_oracle.specs.declared.pending.Key.{Key}
+use Rattle.kit_oracle.specs.Pending.{compare_keys, key_of, queue_with, front_until, earliest_time, has_key, without_key, AreKeyed}
 use Rattle.kit_oracle.proofs.Removing.{remove_is_filter}
 
 -- a message has the key with which its own compares equal
@@ -51,14 +51,14 @@ insert_keyed m (e ∷ es) h = by_order (compare_keys (key_of m) e.0) (own_key m 
     by_order Greater f r = (h.0, r)
 
 -- an insertion into the map enters the message
-pub insert_enters : (m : Message) (es : List (Key × Message)) → AreKeyed es → values_of (insert_entry compare_keys es (key_of m) m) ≡ enter m (values_of es)
+pub insert_enters : (m : Message) (es : List (Key × Message)) → AreKeyed es → values_of (insert_entry compare_keys es (key_of m) m) ≡ queue_with m (values_of es)
 insert_enters m [] h = refl
 insert_enters m (e ∷ es) h =
     by_order (compare_keys (key_of m) e.0) (insert_enters m es h.1)
-    ∙ ap (λ k. match_ordering (compare_keys (key_of m) k) (m ∷ e.1 ∷ values_of es) (m ∷ values_of es) (e.1 ∷ enter m (values_of es))) h.0
+    ∙ ap (λ k. match_ordering (compare_keys (key_of m) k) (m ∷ e.1 ∷ values_of es) (m ∷ values_of es) (e.1 ∷ queue_with m (values_of es))) h.0
   where
-    by_order : (o : Ordering) → values_of (insert_entry compare_keys es (key_of m) m) ≡ enter m (values_of es)
-        → values_of (match_ordering o ((key_of m, m) ∷ e ∷ es) ((e.0, m) ∷ es) (e ∷ insert_entry compare_keys es (key_of m) m)) ≡ match_ordering o (m ∷ e.1 ∷ values_of es) (m ∷ values_of es) (e.1 ∷ enter m (values_of es))
+    by_order : (o : Ordering) → values_of (insert_entry compare_keys es (key_of m) m) ≡ queue_with m (values_of es)
+        → values_of (match_ordering o ((key_of m, m) ∷ e ∷ es) ((e.0, m) ∷ es) (e ∷ insert_entry compare_keys es (key_of m) m)) ≡ match_ordering o (m ∷ e.1 ∷ values_of es) (m ∷ values_of es) (e.1 ∷ queue_with m (values_of es))
     by_order Less r = refl
     by_order Equal r = refl
     by_order Greater r = ap (λ xs. e.1 ∷ xs) r
@@ -93,24 +93,24 @@ is_equal Greater h = absurd (cc)
 
 -- a removal from the map takes out the message of the key
 pub remove_takes : (k : Key) (es : List (Key × Message)) → AreKeyed es → IsStrictlySortedBy compare_keys (keys_of es)
-    → values_of (remove_entry (is_at (compare_keys k)) es) ≡ taken_out k.time k.sender k.number (values_of es)
+    → values_of (remove_entry (is_at (compare_keys k)) es) ≡ without_key k.time k.sender k.number (values_of es)
 remove_takes k es h sorted =
     ap values_of (remove_is_filter (is_at (compare_keys k)) (eq_by_cmp compare_keys) (λ x y e. ap is_eq (keys_total.congr k x y (is_equal (compare_keys k x) e))) es (IsDistinct-from_sorted compare_keys (keys_of es) sorted))
     ∙ filter_values (is_at (compare_keys k)) (has_key k.time k.sender k.number) es (λ x. sym (key_tied k x)) h
 
 -- the first message's time
-pub first_is : (t : ℕ) (es : List (Key × Message)) (k : Key) (m : Message) → slice_get es 0 ≡ Some (k, m) → first_time t (values_of es) ≡ min t m.time
+pub first_is : (t : ℕ) (es : List (Key × Message)) (k : Key) (m : Message) → slice_get es 0 ≡ Some (k, m) → earliest_time t (values_of es) ≡ min t m.time
 first_is t [] k m h = absurd (cc)
 first_is t (e ∷ es) k m h = ap (λ (x : Message). min t x.time) (let s : e ≡ (k, m) = cc in ap (λ (p : Key × Message). p.1) s)
 
 -- the first message is too late, and so is the rest
-pub none_at_front : (d : ℕ) (es : List (Key × Message)) (k : Key) (m : Message) → slice_get es 0 ≡ Some (k, m) → d < m.time → front d (values_of es) ≡ []
+pub none_at_front : (d : ℕ) (es : List (Key × Message)) (k : Key) (m : Message) → slice_get es 0 ≡ Some (k, m) → d < m.time → front_until d (values_of es) ≡ []
 none_at_front d [] k m h lt = refl
 none_at_front d (e ∷ es) k m h lt =
     let s : e ≡ (k, m) = cc in
     let is : e.1 ≡ m = ap (λ (p : Key × Message). p.1) s in
     let late : nat_le e.1.time d ≡ false = ap (λ (x : Message). nat_le x.time d) is ∙ late_test m.time d lt in
-    ap (λ b. cond b (e.1 ∷ front d (values_of es)) []) late
+    ap (λ b. cond b (e.1 ∷ front_until d (values_of es)) []) late
   where
     late_test : (a d : ℕ) → d < a → nat_le a d ≡ false
     late_test a d lt = grind arith

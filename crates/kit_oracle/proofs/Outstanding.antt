@@ -17,7 +17,7 @@ use Rattle.kit_laws.proofs.Rising.{grants, started_reached, reached_after}
 use Rattle.kit_laws.proofs.Needs.{after_one, count_by-append, most_next, most_stays, most_until}
 use Rattle.kit_oracle.specs.declared.desk.Desk.{Desk}
 use Rattle.kit_oracle.specs.Desks.{desk_at, desks_of}
-use Rattle.kit_oracle.specs.Times.{later, is_later, sent_later}
+use Rattle.kit_oracle.specs.Times.{count_later, is_later, count_sent_later}
 use Rattle.kit_oracle.specs.Observing.{IsGrant}
 use Rattle.kit_oracle.specs.Needing.{AreNeeds}
 use Rattle.kit_oracle.proofs.Numbering.{from, Counted}
@@ -29,20 +29,20 @@ count_by-cons : {X : Type 0} (q : X → Bool) (x : X) (xs : List X) → count_by
 count_by-cons q x xs = sum_by-cons (λ y. cond (q y) 1 0) x xs
 
 -- what federate k has outstanding is among its own messages
-count_own : (p : Parts) (k now : ℕ) (ms : List Message) → count_by (is_outstanding p k now) ms ≡ sent_later p now (filter (from k) ms)
+count_own : (p : Parts) (k now : ℕ) (ms : List Message) → count_by (is_outstanding p k now) ms ≡ count_sent_later p now (filter (from k) ms)
 count_own p k now [] = refl
 count_own p k now (m ∷ ms) =
-    let rest = sent_later p now (filter (from k) ms) in
+    let rest = count_sent_later p now (filter (from k) ms) in
     count_by-cons (is_outstanding p k now) m ms ∙ ap (λ n. cond (is_outstanding p k now m) 1 0 + n) (count_own p k now ms)
-    ∙ elim (from k m) as (λ b. cond (b && is_transported p m && nat_lt now m.time) 1 0 + rest ≡ sent_later p now (cond b (m ∷ filter (from k) ms) (filter (from k) ms)))
+    ∙ elim (from k m) as (λ b. cond (b && is_transported p m && nat_lt now m.time) 1 0 + rest ≡ count_sent_later p now (cond b (m ∷ filter (from k) ms) (filter (from k) ms)))
     [ true ↦ sym (count_by-cons (is_later p now) m (filter (from k) ms)) | false ↦ none rest ]
   where
     none : (n : ℕ) → 0 + n ≡ n
     none n = omega arith
 
 -- so it is counted there
-outstanding_own : (p : Parts) (k : ℕ) (w : World) → Counted w → k < length w.seats → outstanding p k w ≡ sent_later p (seat_at w k).now (seat_at w k).state.sends
-outstanding_own p k w c lt = count_own p k (seat_at w k).now w.messages ∙ ap (sent_later p (seat_at w k).now) (c.each k lt).own
+outstanding_own : (p : Parts) (k : ℕ) (w : World) → Counted w → k < length w.seats → outstanding p k w ≡ count_sent_later p (seat_at w k).now (seat_at w k).state.sends
+outstanding_own p k w c lt = count_own p k (seat_at w k).now w.messages ∙ ap (count_sent_later p (seat_at w k).now) (c.each k lt).own
 
 -- what one grant does to the federates' times and sends
 record Granted (p : Parts) (n : ℕ) (g : ℕ × ℕ) (made : List Message) : Type 0 where
@@ -52,7 +52,7 @@ record Granted (p : Parts) (n : ℕ) (g : ℕ × ℕ) (made : List Message) : Ty
   sends : (seat_at (after_grants p (n + 1) (world_at_start p)) g.1).state.sends ≡ (seat_at (after_grants p n (world_at_start p)) g.1).state.sends ++ made
   others : (k : ℕ) → k ≢ g.1 → seat_at (after_grants p (n + 1) (world_at_start p)) k ≡ seat_at (after_grants p n (world_at_start p)) k
   few : length (seat_at (after_grants p (n + 1) (world_at_start p)) g.1).state.sends ≤ 16384
-  counted : outstanding p g.1 (after_grants p (n + 1) (world_at_start p)) ≡ sent_later p g.0 (seat_at (after_grants p (n + 1) (world_at_start p)) g.1).state.sends
+  counted : outstanding p g.1 (after_grants p (n + 1) (world_at_start p)) ≡ count_sent_later p g.0 (seat_at (after_grants p (n + 1) (world_at_start p)) g.1).state.sends
 
 granted_is : (p : Parts) (n : ℕ) (g : ℕ × ℕ) (made : List Message) → IsGrant p n g made → Granted p n g made
 granted_is p n g made is =
@@ -75,20 +75,20 @@ granted_is p n g made is =
       sends = ap (λ (s : Seat). s.state.sends) here ∙ own.sends ∙ ap (λ ms. (seat_at w g.1).state.sends ++ ms) (sym made_is);
       others = λ k ne. ap (λ (u : World). seat_at u k) next ∙ get_or-set_other w.seats g.1 k (seat_after_pair p w g) nobody_seated ne;
       few = omega (arith, (counted.each g.1 (omega (arith, gr.within, after))).next, subst N (sym here) is.room);
-      counted = outstanding_own p g.1 v counted (omega (arith, gr.within, after)) ∙ ap (λ (t : ℕ). sent_later p t (seat_at v g.1).state.sends) now;
+      counted = outstanding_own p g.1 v counted (omega (arith, gr.within, after)) ∙ ap (λ (t : ℕ). count_sent_later p t (seat_at v g.1).state.sends) now;
     }
 
 -- with what a federate sends at its grant, those that are later then
 later_granted : (p : Parts) (n : ℕ) (g : ℕ × ℕ) (made : List Message) (times : List (List ℕ)) (most : List ℕ) → Granted p n g made → AreNeeds p n times most → (t : ℕ) → g.0 ≤ t
-    → later t (get_or times g.1 []) + sent_later p t made ≡ sent_later p t (seat_at (after_grants p (n + 1) (world_at_start p)) g.1).state.sends
+    → count_later t (get_or times g.1 []) + count_sent_later p t made ≡ count_sent_later p t (seat_at (after_grants p (n + 1) (world_at_start p)) g.1).state.sends
 later_granted p n g made times most gr h t le =
     let old = (seat_at (after_grants p n (world_at_start p)) g.1).state.sends in
-    ap (λ k. k + sent_later p t made) (h.counts g.1 t gr.within (omega (arith, gr.forward)))
-    ∙ sym (count_by-append (is_later p t) old made) ∙ ap (sent_later p t) (sym gr.sends)
+    ap (λ k. k + count_sent_later p t made) (h.counts g.1 t gr.within (omega (arith, gr.forward)))
+    ∙ sym (count_by-append (is_later p t) old made) ∙ ap (count_sent_later p t) (sym gr.sends)
 
 -- there is room to count them
 pub room_to_count : (p : Parts) (n : ℕ) (g : ℕ × ℕ) (made : List Message) (times : List (List ℕ)) (most : List ℕ) → IsGrant p n g made → AreNeeds p n times most
-    → (g.1 < length p.federates) × (later g.0 (get_or times g.1 []) + sent_later p g.0 made < 2 ^ 16)
+    → (g.1 < length p.federates) × (count_later g.0 (get_or times g.1 []) + count_sent_later p g.0 made < 2 ^ 16)
 room_to_count p n g made times most is h =
     let gr = granted_is p n g made is in
     let sends = (seat_at (after_grants p (n + 1) (world_at_start p)) g.1).state.sends in
@@ -96,7 +96,7 @@ room_to_count p n g made times most is h =
 
 -- the needs after one more grant
 pub needs_next : (p : Parts) (n : ℕ) (g : ℕ × ℕ) (made : List Message) (times : List (List ℕ)) (most new : List ℕ) (count : ℕ) → IsGrant p n g made → AreNeeds p n times most
-    → ((t : ℕ) → g.0 ≤ t → later t new ≡ later t (get_or times g.1 []) + sent_later p t made) → count ≡ later g.0 (get_or times g.1 []) + sent_later p g.0 made
+    → ((t : ℕ) → g.0 ≤ t → count_later t new ≡ count_later t (get_or times g.1 []) + count_sent_later p t made) → count ≡ count_later g.0 (get_or times g.1 []) + count_sent_later p g.0 made
     → AreNeeds p (n + 1) (set times g.1 new) (set most g.1 (max (get_or most g.1 0) count))
 needs_next p n g made times most new count is h kept counts =
     let gr = granted_is p n g made is in
@@ -106,11 +106,11 @@ needs_next p n g made times most new count is h kept counts =
       each_times = length-set times g.1 new ∙ h.each_times;
       each_most = length-set most g.1 top ∙ h.each_most;
       counts = λ k t lt up. elim (cases_eq k g.1) [
-        | inl e ↦ (let P : ℕ → Type 0 = λ j. (seat_at v j).now ≤ t → later t (get_or (set times g.1 new) j []) ≡ sent_later p t (seat_at v j).state.sends in
+        | inl e ↦ (let P : ℕ → Type 0 = λ j. (seat_at v j).now ≤ t → count_later t (get_or (set times g.1 new) j []) ≡ count_sent_later p t (seat_at v j).state.sends in
             subst P (sym e) (λ up. let after : g.0 ≤ t = omega (arith, gr.now) in
-            ap (later t) (get_or-set_same times g.1 new [] (omega (arith, gr.within, h.each_times))) ∙ kept t after ∙ later_granted p n g made times most gr h t after) up)
-        | inr ne ↦ (let S : Seat → Type 0 = λ s. s.now ≤ t → later t (get_or times k []) ≡ sent_later p t s.state.sends in
-            ap (later t) (get_or-set_other times g.1 k new [] ne) ∙ subst S (sym (gr.others k ne)) (h.counts k t lt) up)
+            ap (count_later t) (get_or-set_same times g.1 new [] (omega (arith, gr.within, h.each_times))) ∙ kept t after ∙ later_granted p n g made times most gr h t after) up)
+        | inr ne ↦ (let S : Seat → Type 0 = λ s. s.now ≤ t → count_later t (get_or times k []) ≡ count_sent_later p t s.state.sends in
+            ap (count_later t) (get_or-set_other times g.1 k new [] ne) ∙ subst S (sym (gr.others k ne)) (h.counts k t lt) up)
       ];
       greatest = λ k lt. elim (cases_eq k g.1) [
         | inl e ↦ (let P : ℕ → Type 0 = λ j. get_or (set most g.1 top) j 0 ≡ most_until p j (n + 1) in
@@ -124,12 +124,12 @@ needs_next p n g made times most new count is h kept counts =
 pub seat_started : (p : Parts) (k : ℕ) → k < length p.federates → seat_at (world_at_start p) k ≡ seat_at_start p k
 seat_started p k lt = get_or-map-range_with_len (seat_at_start p) 0 (length p.federates) k k nobody_seated lt (omega arith)
 
-pub outstanding_started : (p : Parts) (k : ℕ) → IsFederation p → k < length p.federates → most_until p k 0 ≡ sent_later p 0 (seat_at (world_at_start p) k).state.sends
+pub outstanding_started : (p : Parts) (k : ℕ) → IsFederation p → k < length p.federates → most_until p k 0 ≡ count_sent_later p 0 (seat_at (world_at_start p) k).state.sends
 outstanding_started p k f lt =
     let own = outstanding_own p k (world_at_start p) (told p 0 f).counted (omega (arith, lt, length-map-range_with_len (seat_at_start p) 0 (length p.federates))) in
     let now : (seat_at (world_at_start p) k).now ≡ 0 = ap (λ (s : Seat). s.now) (seat_started p k lt) in
     let most : max 0 (outstanding p k (world_at_start p)) ≡ outstanding p k (world_at_start p) = omega arith in
-    most ∙ own ∙ ap (λ (t : ℕ). sent_later p t (seat_at (world_at_start p) k).state.sends) now
+    most ∙ own ∙ ap (λ (t : ℕ). count_sent_later p t (seat_at (world_at_start p) k).state.sends) now
 
 -- what holds at each place of a list, and of one more item, holds at each place of the list with it
 pub each_pushed : {X : Type 0} (P : ℕ → X → Type 0) (xs : List X) (x d : X) (n : ℕ) → length xs ≡ n → ((k : ℕ) → k < n → P k (get_or xs k d)) → P n x → (k : ℕ) → k < n + 1 → P k (get_or (xs ++ x ∷ []) k d)
@@ -141,7 +141,7 @@ each_pushed P xs x d n e h here k lt =
 
 -- the needs at the start
 pub needs_started : (p : Parts) (ds : List Desk) (times : List (List ℕ)) (most : List ℕ) (n : ℕ) → IsFederation p → ds ≡ desks_of p (world_at_start p) → length ds ≤ n → length times ≡ n → length most ≡ n
-    → ((k t : ℕ) → k < n → later t (get_or times k []) ≡ sent_later p t (desk_at ds k).state.sends) → ((k : ℕ) → k < n → get_or most k 0 ≡ sent_later p 0 (desk_at ds k).state.sends) → n ≤ length ds
+    → ((k t : ℕ) → k < n → count_later t (get_or times k []) ≡ count_sent_later p t (desk_at ds k).state.sends) → ((k : ℕ) → k < n → get_or most k 0 ≡ count_sent_later p 0 (desk_at ds k).state.sends) → n ≤ length ds
     → AreNeeds p 0 times most
 needs_started p ds times most n f e le each_times each_most counts greatest up =
     let w = world_at_start p in
@@ -152,8 +152,8 @@ needs_started p ds times most n f e le each_times each_most counts greatest up =
     record {
       each_times = omega (arith, each_times, le, up, count);
       each_most = omega (arith, each_most, le, up, count);
-      counts = λ k t lt _. counts k t (omega (arith, lt, count, le)) ∙ ap (sent_later p t) (desk k lt);
-      greatest = λ k lt. greatest k (omega (arith, lt, count, le)) ∙ ap (sent_later p 0) (desk k lt) ∙ sym (outstanding_started p k f lt);
+      counts = λ k t lt _. counts k t (omega (arith, lt, count, le)) ∙ ap (count_sent_later p t) (desk k lt);
+      greatest = λ k lt. greatest k (omega (arith, lt, count, le)) ∙ ap (count_sent_later p 0) (desk k lt) ∙ sym (outstanding_started p k f lt);
     }
 
 -- what is known after the last grant are the needs

@@ -17,7 +17,7 @@ use Rattle.kit_rules.proofs.Growth.{AreNumbered}
 use Rattle.kit_rules.proofs.Backs.{Aimed, Aims, aimed_by_step, one_time}
 use Rattle.kit_rules.specs.Delivery.{is_same, retracts}
 use Rattle.kit_rules.specs.Simulation.{Seat, World, world_at_start, seat_at_start, seat_at, nobody_seated, seat_after_pair, world_after_grant, world_after_pair, next_grant, next_world, after_grants}
-use Rattle.kit_oracle.specs.Queues.{has_key, taken_out}
+use Rattle.kit_oracle.specs.Pending.{has_key, without_key}
 use Rattle.kit_laws.proofs.Worlds.{grows_by_start}
 use Rattle.kit_oracle.proofs.Fronts.{filter_same}
 use Rattle.kit_oracle.proofs.Numbering.{from, Below, OwnSends, Counted, filter_own, filter_other, below_numbered, aimed_by_grant, granted_counted}
@@ -209,7 +209,7 @@ by_key_each r [] e h = tt
 by_key_each r (x ∷ xs) e h = (ap not (by_key r x e h.0), by_key_each r xs e h.1)
 
 -- so taking out by time, sender and number is taking out what it names
-pub retraction_by_key : (r : Message) (xs : List Message) → is_event r.kind ≡ false → AllByRecursion (Timed r) xs → filter (λ (x : Message). not (retracts x r)) xs ≡ taken_out r.time r.sender r.value xs
+pub retraction_by_key : (r : Message) (xs : List Message) → is_event r.kind ≡ false → AllByRecursion (Timed r) xs → filter (λ (x : Message). not (retracts x r)) xs ≡ without_key r.time r.sender r.value xs
 retraction_by_key r xs e h = filter_same (λ (x : Message). not (retracts x r)) (λ (x : Message). not (has_key r.time r.sender r.value x)) xs (by_key_each r xs e h)
 
 -- what is told of each world of the run

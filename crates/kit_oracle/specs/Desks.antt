@@ -9,12 +9,12 @@ use Rattle.kit_rules.specs.Parts.{Parts}
 use Rattle.kit_rules.specs.Delivery.{is_transported, receivers_of, pending_messages}
 use Rattle.kit_rules.specs.Simulation.{Seat, World, request_at, after_block}
 use Rattle.kit_oracle.specs.declared.desk.Desk.{Desk}
-use Rattle.kit_oracle.specs.Queues.{front, behind, first_time, posted}
+use Rattle.kit_oracle.specs.Pending.{front_until, rest_after, earliest_time, queue_after_message}
 
 -- when a request is due, with these messages in order
 abbrev pub due_in : Request → List Message → ℕ
 due_in (request.Tar t) q = t
-due_in (request.Ner t) q = first_time t q
+due_in (request.Ner t) q = earliest_time t q
 
 -- due time and number of each federate below the end
 abbrev pub waiting_at : ℕ → ℕ → List Desk → List (ℕ × ℕ)
@@ -22,24 +22,24 @@ waiting_at end i [] = []
 waiting_at end i (d ∷ ds) = if nat_lt d.now end then (due_in d.request d.queue, i) ∷ waiting_at end (i + 1) ds else waiting_at end (i + 1) ds
 
 -- federate i's desk after a grant of d, before its messages are posted
-abbrev pub turned : Parts → ℕ → ℕ → Desk → Desk
-turned p i d desk =
-    let after = after_block p i d desk.state (front d desk.queue) in
-    record { now = d; request = if nat_lt d p.end then request_at after.wish d p.end else desk.request; state = after; queue = behind d desk.queue }
+abbrev pub desk_after_turn : Parts → ℕ → ℕ → Desk → Desk
+desk_after_turn p i d desk =
+    let after = after_block p i d desk.state (front_until d desk.queue) in
+    record { now = d; request = if nat_lt d p.end then request_at after.wish d p.end else desk.request; state = after; queue = rest_after d desk.queue }
 
 -- those that a message reaches
-abbrev pub reached : Parts → Message → ℕ
-reached p m = if is_transported p m then receivers_of p m.sender m.group else 0
+abbrev pub receiver_mask : Parts → Message → ℕ
+receiver_mask p m = if is_transported p m then receivers_of p m.sender m.group else 0
 
 -- the desks, from number j on, after one more message
-abbrev pub posted_from : ℕ → Message → ℕ → List Desk → List Desk
-posted_from mask m j [] = []
-posted_from mask m j (d ∷ ds) = record { now = d.now; request = d.request; state = d.state; queue = posted mask j m d.queue } ∷ posted_from mask m (j + 1) ds
+abbrev pub desks_after_message_from : ℕ → Message → ℕ → List Desk → List Desk
+desks_after_message_from mask m j [] = []
+desks_after_message_from mask m j (d ∷ ds) = record { now = d.now; request = d.request; state = d.state; queue = queue_after_message mask j m d.queue } ∷ desks_after_message_from mask m (j + 1) ds
 
 -- the desks after these messages, one after another
-abbrev pub all_posted : Parts → List Message → List Desk → List Desk
-all_posted p [] ds = ds
-all_posted p (m ∷ ms) ds = all_posted p ms (posted_from (reached p m) m 0 ds)
+abbrev pub desks_after_messages : Parts → List Message → List Desk → List Desk
+desks_after_messages p [] ds = ds
+desks_after_messages p (m ∷ ms) ds = desks_after_messages p ms (desks_after_message_from (receiver_mask p m) m 0 ds)
 
 abbrev pub nobody_there : Desk
 nobody_there = record { now = 0; request = request.Tar 0; state = record { vars = []; wish = wish.Tar 0; next = 1; sends = [] }; queue = [] }
@@ -48,21 +48,21 @@ abbrev pub desk_at : List Desk → ℕ → Desk
 desk_at ds i = slice_index_or ds i nobody_there
 
 -- the desk of the pair's federate after its grant
-abbrev pub turned_at : Parts → ℕ × ℕ → List Desk → Desk
-turned_at p g ds = turned p g.1 g.0 (desk_at ds g.1)
+abbrev pub desk_after_turn_at : Parts → ℕ × ℕ → List Desk → Desk
+desk_after_turn_at p g ds = desk_after_turn p g.1 g.0 (desk_at ds g.1)
 
 -- the desks after the grant of the pair's time to its federate
-abbrev pub after_grant : Parts → ℕ × ℕ → List Desk → List Desk
-after_grant p g ds = all_posted p (drop (length (desk_at ds g.1).state.sends) (turned_at p g ds).state.sends) (slice_set ds g.1 (turned_at p g ds))
+abbrev pub desks_after_grant : Parts → ℕ × ℕ → List Desk → List Desk
+desks_after_grant p g ds = desks_after_messages p (drop (length (desk_at ds g.1).state.sends) (desk_after_turn_at p g ds).state.sends) (slice_set ds g.1 (desk_after_turn_at p g ds))
 
 -- what a desk shows of a seat: its messages that are pending, in order
-abbrev pub shown : Parts → List Message → ℕ → Seat → Desk
-shown p sent i s = record { now = s.now; request = s.request; state = s.state; queue = in_order (pending_messages p i s.got sent) }
+abbrev pub desk_of_seat : Parts → List Message → ℕ → Seat → Desk
+desk_of_seat p sent i s = record { now = s.now; request = s.request; state = s.state; queue = in_order (pending_messages p i s.got sent) }
 
-abbrev pub shown_from : Parts → List Message → ℕ → List Seat → List Desk
-shown_from p sent i [] = []
-shown_from p sent i (s ∷ ss) = shown p sent i s ∷ shown_from p sent (i + 1) ss
+abbrev pub desks_of_seats_from : Parts → List Message → ℕ → List Seat → List Desk
+desks_of_seats_from p sent i [] = []
+desks_of_seats_from p sent i (s ∷ ss) = desk_of_seat p sent i s ∷ desks_of_seats_from p sent (i + 1) ss
 
 -- the desks of a world
 abbrev pub desks_of : Parts → World → List Desk
-desks_of p w = shown_from p w.messages 0 w.seats
+desks_of p w = desks_of_seats_from p w.messages 0 w.seats

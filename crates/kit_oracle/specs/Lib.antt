@@ -1,6 +1,7 @@
 pub mod Ends
-pub mod Queues
+pub mod Pending
 pub mod Desks
+pub mod Running
 pub mod Observing
 pub mod Times
 pub mod Needing

@@ -2,7 +2,7 @@ ghost use Rattle.std.specs.Prelude.{◌≡◌, ◌≤◌, length, None};
 ghost use Rattle.kit_rules.specs.Simulation.{least_pair, sooner_pair};
 ghost use Rattle.kit_oracle.specs.Desks.{due_in, waiting_at};
 
-use crate::queue::Queue;
+use crate::pending::PendingMessages;
 use kit_rules::{FedState, Request};
 
 /// What the simulation keeps of a federate: its time, its request, its state, and the messages
@@ -12,16 +12,16 @@ pub(crate) struct Desk {
     pub(crate) now: u64,
     pub(crate) request: Request,
     pub(crate) state: FedState,
-    pub(crate) queue: Queue,
+    pub(crate) queue: PendingMessages,
 }
 
 /// When a request is due.
-fn due_of(request: Request, queue: &Queue) -> u64
+fn due_of(request: Request, queue: &PendingMessages) -> u64
     ensures { result ≡ due_in request queue.now }
 {
     match request {
         Request::Tar(time) => time,
-        Request::Ner(time) => queue.first_time(time),
+        Request::Ner(time) => queue.earliest_time(time),
     }
 }
 

@@ -6,11 +6,13 @@ use kit_rules::ApplyEnd;
 use std::alloc::{AllocError, AllocFailed};
 
 /// How a simulation ends without a history.
-#[derive(Clone, Copy, Debug, PartialEq, Eq)]
+#[derive(Clone, Copy, Debug, PartialEq, Eq, thiserror::Error)]
 pub enum OracleEnd {
     /// A federate takes number 16,385: it is the first in the order of the simulation.
+    #[error("federate {federate} would take number 16,385 for a message")]
     SendsSpent { federate: u8 },
     /// Memory ran out.
+    #[error("memory ran out")]
     NoMemory,
 }
 

@@ -1,19 +1,22 @@
 //! The grant of a time to a federate.
 
-ghost use Rattle.std.specs.Prelude.{◌≡◌, ◌<◌, ◌≤◌, ◌+◌, [], ◌∷◌, ◌++◌, length, map, take, drop, OnOk, Err};
+ghost use Rattle.std.specs.Prelude.{◌≡◌, ◌<◌, ◌≤◌, ◌+◌, [], ◌∷◌, ◌++◌};
+ghost use Rattle.std.specs.Prelude.{length, map, take, drop, OnOk, Err};
 ghost use Rattle.kit_base.specs.declared.history.Line.TheVariants as line;
 ghost use Rattle.kit_rules.specs.Simulation.{request_at, after_deliveries, after_block};
-ghost use Rattle.kit_oracle.specs.Queues.{front, behind};
-ghost use Rattle.kit_oracle.specs.Desks.{turned, turned_at, desk_at, after_grant};
+ghost use Rattle.kit_oracle.specs.Pending.{front_until, rest_after};
+ghost use Rattle.kit_oracle.specs.Desks.{desk_after_turn, desk_after_turn_at};
+ghost use Rattle.kit_oracle.specs.Desks.{desk_at, desks_after_grant};
 ghost use Rattle.kit_oracle.specs.Ends.{IfSpent};
 ghost use Rattle.kit_oracle.specs.Observing.{Adds};
+ghost use Rattle.kit_oracle.specs.Running.{RunsTo};
 
 use crate::OracleEnd;
 use crate::desk::Desk;
 use crate::end::end_of;
 use crate::observer::Observer;
+use crate::pending::PendingMessages;
 use crate::posting::post_all;
-use crate::queue::Queue;
 use kit_base::Message;
 use kit_rules::{ApplyEnd, FedState, Federation, Request, Trigger, Wish, apply};
 
@@ -39,11 +42,11 @@ fn deliver<O: Observer>(
 ) -> Result<(), ApplyEnd>
     requires federate { i < length federation.now.federates }
     requires time { d ≤ federation.now.end }
-    ensures state { OnOk result (state.new ≡ after_deliveries federation.now i d state.old (message ∷ [])) }
-    ensures made { OnOk result (made.new.items ≡ made.old.items ++ drop (length state.old.sends) state.new.sends) }
-    ensures lines { OnOk result (Adds O.shows observer.old observer.new (line.Deliver d i message ∷ [])) }
+    ensures runs { RunsTo (after_deliveries federation.now i d state.old (message ∷ []))
+        state.old state.new result made.old.items made.new.items }
+    ensures lines { OnOk result (Adds O.shows observer.old observer.new
+        (line.Deliver d i message ∷ [])) }
     ensures kept { take (length state.old.sends) state.new.sends ≡ state.old.sends }
-    ensures spent { result ≡ Err ApplyEnd.SendsSpent → 16385 < (after_deliveries federation.now i d state.old (message ∷ [])).next }
 {
     observer.deliver(d, i, message)?;
     let group = message.group;
@@ -64,17 +67,17 @@ fn deliver_all<O: Observer>(
     i: u8,
     d: u64,
     state: &mut FedState,
-    queue: &mut Queue,
+    queue: &mut PendingMessages,
     made: &mut Vec<Message>,
     observer: &mut O,
 ) -> Result<(), ApplyEnd>
     requires federate { i < length federation.now.federates }
     requires time { d ≤ federation.now.end }
-    ensures state { OnOk result (state.new ≡ after_deliveries federation.now i d state.old (front d queue.old)) }
-    ensures queue { OnOk result (queue.new ≡ behind d queue.old) }
-    ensures made { OnOk result (made.new.items ≡ made.old.items ++ drop (length state.old.sends) state.new.sends) }
-    ensures lines { OnOk result (Adds O.shows observer.old observer.new (map (line.Deliver d i) (front d queue.old))) }
-    ensures spent { result ≡ Err ApplyEnd.SendsSpent → 16385 < (after_deliveries federation.now i d state.old (front d queue.old)).next }
+    ensures runs { RunsTo (after_deliveries federation.now i d state.old (front_until d queue.old))
+        state.old state.new result made.old.items made.new.items }
+    ensures queue { OnOk result (queue.new ≡ rest_after d queue.old) }
+    ensures lines { OnOk result (Adds O.shows observer.old observer.new
+        (map (line.Deliver d i) (front_until d queue.old))) }
 {
     while let Some(message) = queue.pop_due(d) {
         deliver(federation, i, d, message, state, made, observer)?;
@@ -88,21 +91,19 @@ fn run_block<O: Observer>(
     i: u8,
     d: u64,
     state: &mut FedState,
-    queue: &mut Queue,
+    queue: &mut PendingMessages,
     made: &mut Vec<Message>,
     observer: &mut O,
 ) -> Result<(), ApplyEnd>
     requires federate { i < length federation.now.federates }
     requires time { d ≤ federation.now.end }
-    ensures state { OnOk result (state.new ≡ after_block federation.now i d state.old (front d queue.old)) }
-    ensures queue { OnOk result (queue.new ≡ behind d queue.old) }
-    ensures made { OnOk result (made.new.items ≡ made.old.items ++ drop (length state.old.sends) state.new.sends) }
-    ensures lines { OnOk result (Adds O.shows observer.old observer.new (map (line.Deliver d i) (front d queue.old))) }
-    ensures spent { result ≡ Err ApplyEnd.SendsSpent → 16385 < (after_block federation.now i d state.old (front d queue.old)).next }
+    ensures runs { RunsTo (after_block federation.now i d state.old (front_until d queue.old))
+        state.old state.new result made.old.items made.new.items }
+    ensures queue { OnOk result (queue.new ≡ rest_after d queue.old) }
+    ensures lines { OnOk result (Adds O.shows observer.old observer.new
+        (map (line.Deliver d i) (front_until d queue.old))) }
     ensures room { OnOk result (state.new.next ≤ 16385) }
-    ensures was_room { state.old.next ≤ 16385 }
 {
-    let _ = state.next();
     deliver_all(federation, i, d, state, queue, made, observer)?;
     apply(federation, i, state, Trigger::Grant, d, 0, made)
 }
@@ -118,14 +119,13 @@ fn turn<O: Observer>(
 ) -> Result<(), ApplyEnd>
     requires federate { i < length federation.now.federates }
     requires time { d ≤ federation.now.end }
-    ensures desk { OnOk result (desk.new ≡ turned federation.now i d desk.old) }
-    ensures made { OnOk result (made.new.items ≡ made.old.items ++ drop (length desk.old.state.sends) desk.new.state.sends) }
-    ensures lines { OnOk result (Adds O.shows observer.old observer.new (map (line.Deliver d i) (front d desk.old.queue))) }
-    ensures spent { result ≡ Err ApplyEnd.SendsSpent → 16385 < (turned federation.now i d desk.old).state.next }
-    ensures room { OnOk result ((turned federation.now i d desk.old).state.next ≤ 16385) }
-    ensures was_room { desk.old.state.next ≤ 16385 }
+    ensures desk { OnOk result (desk.new ≡ desk_after_turn federation.now i d desk.old) }
+    ensures runs { RunsTo (desk_after_turn federation.now i d desk.old).state
+        desk.old.state desk.new.state result made.old.items made.new.items }
+    ensures lines { OnOk result (Adds O.shows observer.old observer.new
+        (map (line.Deliver d i) (front_until d desk.old.queue))) }
+    ensures room { OnOk result ((desk_after_turn federation.now i d desk.old).state.next ≤ 16385) }
 {
-    let _ = desk.state.next();
     let end = federation.end();
     run_block(
         federation,
@@ -156,13 +156,19 @@ pub(crate) fn grant<O: Observer>(
     requires few { length desks.old.items ≤ 16 }
     requires time { pair.0 ≤ federation.now.end }
     requires made { made.old.items ≡ [] }
-    ensures desks { OnOk result (desks.new.items ≡ after_grant federation.now pair desks.old.items) }
-    ensures made { OnOk result (made.new.items ≡ drop (length (desk_at desks.old.items pair.1).state.sends) (turned_at federation.now pair desks.old.items).state.sends) }
-    ensures lines { OnOk result (Adds O.shows observer.old observer.new (map (line.Deliver pair.0 pair.1) (front pair.0 (desk_at desks.old.items pair.1).queue))) }
+    ensures desks { OnOk result
+        (desks.new.items ≡ desks_after_grant federation.now pair desks.old.items) }
+    ensures made { OnOk result (made.new.items ≡
+        drop (length (desk_at desks.old.items pair.1).state.sends)
+        (desk_after_turn_at federation.now pair desks.old.items).state.sends) }
+    ensures lines { OnOk result (Adds O.shows observer.old observer.new
+        (map (line.Deliver pair.0 pair.1)
+        (front_until pair.0 (desk_at desks.old.items pair.1).queue))) }
     ensures spent { IfSpent result (λ i. i ≡ pair.1) }
-    ensures past { IfSpent result (λ _. 16385 < (turned_at federation.now pair desks.old.items).state.next) }
-    ensures room { OnOk result ((turned_at federation.now pair desks.old.items).state.next ≤ 16385) }
-    ensures was_room { (desk_at desks.old.items pair.1).state.next ≤ 16385 }
+    ensures past { IfSpent result (λ _. 16385 <
+        (desk_after_turn_at federation.now pair desks.old.items).state.next) }
+    ensures room { OnOk result
+        ((desk_after_turn_at federation.now pair desks.old.items).state.next ≤ 16385) }
 {
     let (d, i) = pair;
     let desk = &mut desks[i as usize];

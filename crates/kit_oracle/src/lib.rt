@@ -7,8 +7,8 @@ mod grants;
 mod needs;
 mod observer;
 mod opening;
+mod pending;
 mod posting;
-mod queue;
 mod simulation;
 mod times;
 

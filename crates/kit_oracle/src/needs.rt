@@ -3,8 +3,8 @@
 ghost use Rattle.std.specs.Prelude.{◌≡◌, ℕ, ◌+◌, ◌<◌, ◌≤◌, ◌^◌, [], ◌∷◌, length, IfOk, OnOk};
 ghost use Rattle.kit_rules.specs.Simulation.{world_at_start};
 ghost use Rattle.kit_oracle.specs.Desks.{desks_of};
-ghost use Rattle.kit_oracle.specs.Times.{later, sent_later};
-ghost use Rattle.kit_oracle.specs.Needing.{AreNeeds, needs_still};
+ghost use Rattle.kit_oracle.specs.Times.{count_later, count_sent_later};
+ghost use Rattle.kit_oracle.specs.Needing.{AreNeeds};
 
 use crate::desk::Desk;
 use crate::observer::Observer;
@@ -24,7 +24,26 @@ pub(crate) struct Needs {
 impl Observer for Needs {
     ghost shows = { λ p n _ s. AreNeeds p n s.times.items s.most.items };
 
-    ghost over = { λ p n _ s none h. needs_still p n s.times.items s.most.items none h };
+    ghost use Rattle.std.specs.Prelude.{◌≡◌, ℕ, ◌+◌, ◌<◌, ◌≤◌, [], length, slice_index_or, None};
+    ghost use Rattle.std.proofs.Common.{sym, subst, ◌∙◌};
+    ghost use Rattle.kit_rules.specs.Simulation.{World, world_at_start, after_grants, seat_at};
+    ghost use Rattle.kit_laws.proofs.Needs.{after_one, most_still};
+    ghost use Rattle.kit_oracle.specs.Times.{count_later, count_sent_later};
+
+    // The world stays as it is, and with it the times; so do the greatest numbers.
+    ghost over = { λ p n _ s none h.
+        let start = world_at_start p in
+        let same : after_grants p n start ≡ after_grants p (n + 1) start =
+        sym (after_one p n None none) in
+        let Counts : World → Type 0 = λ w. (k t : ℕ) → k < length p.federates →
+        (seat_at w k).now ≤ t → count_later t (slice_index_or s.times.items k []) ≡
+        count_sent_later p t (seat_at w k).state.sends in
+        record {
+          each_times = h.each_times;
+          each_most = h.each_most;
+          counts = subst Counts same h.counts;
+          greatest = λ k lt. h.greatest k lt ∙ sym (most_still p k n none);
+        } };
 
     fn deliver(
         &mut self,
@@ -57,12 +76,13 @@ impl Needs {
         desks: &[Desk],
     ) -> Result<Needs, AllocError>
         requires { desks.now ≡ desks_of federation.now (world_at_start federation.now) }
-        ensures { IfOk result (λ needs. AreNeeds federation.now 0 needs.times.items needs.most.items) }
+        ensures { IfOk result
+            (λ needs. AreNeeds federation.now 0 needs.times.items needs.most.items) }
     {
-        let _federates = federation.count();
+        let federates = federation.count() as usize;
         let mut needs = Needs {
-            times: Vec::new(alloc),
-            most: Vec::new(alloc),
+            times: Vec::with_capacity(alloc, federates)?,
+            most: Vec::with_capacity(alloc, federates)?,
         };
         for desk in desks {
             let mut times = Times::new(alloc);
@@ -91,9 +111,11 @@ fn outstanding(
     made: &[Message],
     times: &mut Times,
 ) -> Result<u16, AllocError>
-    requires { later now times.old + sent_later federation.now now made.now < 2 ^ 16 }
-    ensures kept { OnOk result ((t : ℕ) → now ≤ t → later t times.new ≡ later t times.old + sent_later federation.now t made.now) }
-    ensures count { IfOk result (λ n. n ≡ later now times.old + sent_later federation.now now made.now) }
+    requires { count_later now times.old + count_sent_later federation.now now made.now < 2 ^ 16 }
+    ensures kept { OnOk result ((t : ℕ) → now ≤ t → count_later t times.new ≡
+        count_later t times.old + count_sent_later federation.now t made.now) }
+    ensures count { IfOk result
+        (λ n. n ≡ count_later now times.old + count_sent_later federation.now now made.now) }
 {
     add_times(federation, made, times)?;
     Ok(times.later_than(now) as u16)
@@ -101,7 +123,8 @@ fn outstanding(
 
 /// Adds the time of a message, if it is transported.
 fn add_time(federation: &Federation, message: &Message, times: &mut Times) -> Result<(), AllocError>
-    ensures { OnOk result ((t : ℕ) → later t times.new ≡ later t times.old + sent_later federation.now t (message.now ∷ [])) }
+    ensures { OnOk result ((t : ℕ) → count_later t times.new ≡
+        count_later t times.old + count_sent_later federation.now t (message.now ∷ [])) }
 {
     if !transported(federation, message) {
         return Ok(());
@@ -111,7 +134,8 @@ fn add_time(federation: &Federation, message: &Message, times: &mut Times) -> Re
 
 /// Adds the times of the messages that are transported.
 fn add_times(federation: &Federation, made: &[Message], times: &mut Times) -> Result<(), AllocError>
-    ensures { OnOk result ((t : ℕ) → later t times.new ≡ later t times.old + sent_later federation.now t made.now) }
+    ensures { OnOk result ((t : ℕ) → count_later t times.new ≡
+        count_later t times.old + count_sent_later federation.now t made.now) }
 {
     for message in made {
         add_time(federation, message, times)?;

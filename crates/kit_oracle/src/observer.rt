@@ -19,7 +19,8 @@ pub(crate) trait Observer {
 
     /// A message is delivered with the grant of a time.
     fn deliver(&mut self, granted: u64, federate: u8, message: Message) -> Result<(), AllocError>
-        ensures { OnOk result (Adds shows self.old self.new (line.Deliver granted federate message ∷ [])) };
+        ensures { OnOk result (Adds shows self.old self.new
+            (line.Deliver granted federate message ∷ [])) };
 
     /// A federate is granted a time, with all that it sends at its grant.
     fn grant(
@@ -28,11 +29,16 @@ pub(crate) trait Observer {
         pair: (u64, u8),
         made: &[Message],
     ) -> Result<(), AllocError>
-        requires { (n : ℕ) × (ls : List Line) × IsGrant federation.now n pair made.now × shows federation.now n ls self.old }
-        ensures { (n : ℕ) (ls : List Line) → IsGrant federation.now n pair made.now → shows federation.now n ls self.old → OnOk result (shows federation.now (n + 1) (ls ++ line.Grant pair.0 pair.1 ∷ []) self.new) };
+        requires { (n : ℕ) × (ls : List Line) × IsGrant federation.now n pair made.now ×
+            shows federation.now n ls self.old }
+        ensures { (n : ℕ) (ls : List Line) → IsGrant federation.now n pair made.now →
+            shows federation.now n ls self.old → OnOk result
+            (shows federation.now (n + 1) (ls ++ line.Grant pair.0 pair.1 ∷ []) self.new) };
 
     // where nobody waits, a further turn changes nothing
-    ghost over: { (p : Parts) (n : ℕ) (ls : List Line) (s : Self) → next_grant p (after_grants p n (world_at_start p)) ≡ None → shows p n ls s → shows p (n + 1) ls s };
+    ghost over: { (p : Parts) (n : ℕ) (ls : List Line) (s : Self) →
+        next_grant p (after_grants p n (world_at_start p)) ≡ None →
+        shows p n ls s → shows p (n + 1) ls s };
 }
 
 /// The lines of a simulation, one after another.

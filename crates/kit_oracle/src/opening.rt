@@ -1,16 +1,18 @@
 //! The start of the simulation.
 
-ghost use Rattle.std.specs.Prelude.{◌≡◌, ◌<◌, ◌≤◌, [], ◌++◌, length, find, Some, None, Err, OnOk, IfOk};
+ghost use Rattle.std.specs.Prelude.{◌≡◌, ◌<◌, ◌≤◌, [], ◌++◌, length};
+ghost use Rattle.std.specs.Prelude.{find, Some, None, Err, OnOk, IfOk};
+ghost use Rattle.kit_rules.specs.Federation.{IsFederation};
 ghost use Rattle.kit_rules.specs.Simulation.{world_at_start, seat_at_start, spender, is_spent};
-ghost use Rattle.kit_oracle.specs.Desks.{shown, shown_from, desks_of};
+ghost use Rattle.kit_oracle.specs.Desks.{desk_of_seat, desks_of_seats_from, desks_of};
 ghost use Rattle.kit_oracle.specs.Ends.{IfSpent};
 
 use crate::OracleEnd;
 use crate::desk::Desk;
 use crate::end::end_of;
 use crate::grants::request_of;
+use crate::pending::PendingMessages;
 use crate::posting::post_all;
-use crate::queue::Queue;
 use kit_base::Message;
 use kit_rules::{ApplyEnd, FedState, Federation, Trigger, apply};
 use std::alloc::Global;
@@ -23,9 +25,12 @@ fn open(
     made: &mut Vec<Message>,
 ) -> Result<Desk, ApplyEnd>
     requires { i < length federation.now.federates }
-    ensures desk { IfOk result (λ desk. desk ≡ shown federation.now [] i (seat_at_start federation.now i)) }
-    ensures made { OnOk result (made.new.items ≡ made.old.items ++ (seat_at_start federation.now i).state.sends) }
-    ensures spent { result ≡ Err ApplyEnd.SendsSpent → 16385 < (seat_at_start federation.now i).state.next }
+    ensures desk { IfOk result (λ desk.
+        desk ≡ desk_of_seat federation.now [] i (seat_at_start federation.now i)) }
+    ensures made { OnOk result (made.new.items ≡
+        made.old.items ++ (seat_at_start federation.now i).state.sends) }
+    ensures spent { result ≡ Err ApplyEnd.SendsSpent →
+        16385 < (seat_at_start federation.now i).state.next }
     ensures room { OnOk result ((seat_at_start federation.now i).state.next ≤ 16385) }
 {
     let end = federation.end();
@@ -36,7 +41,7 @@ fn open(
         now: 0,
         request,
         state,
-        queue: Queue::new(alloc),
+        queue: PendingMessages::new(alloc),
     })
 }
 
@@ -46,10 +51,12 @@ fn open_each(
     made: &mut Vec<Message>,
 ) -> Result<Vec<Desk>, OracleEnd>
     requires { made.old.items ≡ [] }
-    ensures desks { IfOk result (λ desks. desks.items ≡ shown_from federation.now [] 0 (world_at_start federation.now).seats) }
+    ensures desks { IfOk result (λ desks. desks.items ≡
+        desks_of_seats_from federation.now [] 0 (world_at_start federation.now).seats) }
     ensures made { OnOk result (made.new.items ≡ (world_at_start federation.now).messages) }
     ensures none { OnOk result (find is_spent (world_at_start federation.now).messages ≡ None) }
     ensures spent { IfSpent result (λ i. spender federation.now ≡ Some i) }
+    ensures sound { IsFederation federation.now }
 {
     let mut desks = Vec::new(alloc);
     for i in 0..federation.count() {
@@ -68,12 +75,13 @@ pub(crate) fn open_all(
     made: &mut Vec<Message>,
 ) -> Result<Vec<Desk>, OracleEnd>
     requires { made.old.items ≡ [] }
-    ensures desks { IfOk result (λ desks. desks.items ≡ desks_of federation.now (world_at_start federation.now)) }
+    ensures desks { IfOk result (λ desks.
+        desks.items ≡ desks_of federation.now (world_at_start federation.now)) }
     ensures made { OnOk result (made.new.items ≡ []) }
     ensures none { OnOk result (find is_spent (world_at_start federation.now).messages ≡ None) }
     ensures spent { IfSpent result (λ i. spender federation.now ≡ Some i) }
+    ensures sound { IsFederation federation.now }
 {
-    let _ = federation.count();
     let mut desks = open_each(alloc, federation, made)?;
     post_all(federation, made, &mut desks)?;
     made.clear();

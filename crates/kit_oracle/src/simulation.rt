@@ -1,7 +1,9 @@
-ghost use Rattle.std.specs.Prelude.{◌≡◌, ◌*◌, ◌≤◌, [], length, map, find, Some, None, OnOk, IfOk, All};
+ghost use Rattle.std.specs.Prelude.{◌≡◌, ◌*◌, ◌≤◌, ◌<◌, [], length, map};
+ghost use Rattle.std.specs.Prelude.{find, Some, None, OnOk, IfOk, All};
 ghost use Rattle.kit_rules.specs.Fits.{LineFits};
 ghost use Rattle.kit_rules.specs.Need.{needs_of};
-ghost use Rattle.kit_rules.specs.Simulation.{world_at_start, simulation, spender, is_spent, lines_of, closing_vars};
+ghost use Rattle.kit_rules.specs.Simulation.{world_at_start, simulation, spender};
+ghost use Rattle.kit_rules.specs.Simulation.{is_spent, lines_of, closing_vars};
 ghost use Rattle.kit_oracle.specs.Desks.{desks_of};
 ghost use Rattle.kit_oracle.specs.Ends.{IfSpent};
 
@@ -27,8 +29,11 @@ fn run_all<O: Observer>(
     requires made { made.old.items ≡ [] }
     requires shows { O.shows federation.now 0 [] observer.old }
     requires none { find is_spent (world_at_start federation.now).messages ≡ None }
-    ensures desks { OnOk result (desks.new.items ≡ desks_of federation.now (simulation federation.now)) }
-    ensures shows { OnOk result (O.shows federation.now (length federation.now.federates * federation.now.end) (lines_of (simulation federation.now).blocks) observer.new) }
+    ensures desks { OnOk result
+        (desks.new.items ≡ desks_of federation.now (simulation federation.now)) }
+    ensures shows { OnOk result
+        (O.shows federation.now (length federation.now.federates * federation.now.end)
+        (lines_of (simulation federation.now).blocks) observer.new) }
     ensures none { OnOk result (find is_spent (simulation federation.now).messages ≡ None) }
     ensures spent { IfSpent result (λ i. spender federation.now ≡ Some i) }
 {
@@ -69,12 +74,12 @@ pub fn simulate(alloc: Global, federation: &Federation) -> Result<History, Oracl
     ensures vars { IfOk result (λ h. h.vars ≡ closing_vars (simulation federation.now)) }
     ensures none { OnOk result (spender federation.now ≡ None) }
     ensures spent { IfSpent result (λ i. spender federation.now ≡ Some i) }
+    ensures within { IfSpent result (λ i. i < length federation.now.federates) }
 
     // What the text asks of a history.
     ensures fits { IfOk result (λ h. All (LineFits federation.now) h.lines) }
     ensures each { IfOk result (λ h. length h.vars ≡ length federation.now.federates) }
 {
-    let _ = federation.count();
     let mut made = Vec::new(alloc);
     let mut lines = Vec::new(alloc);
     let mut desks = open_all(alloc, federation, &mut made)?;
@@ -95,6 +100,7 @@ pub fn need(alloc: Global, federation: &Federation) -> Result<Items<u16>, Oracle
     ensures needs { IfOk result (λ needs. needs ≡ needs_of federation.now) }
     ensures none { OnOk result (spender federation.now ≡ None) }
     ensures spent { IfSpent result (λ i. spender federation.now ≡ Some i) }
+    ensures within { IfSpent result (λ i. i < length federation.now.federates) }
 
     // What the text of the needs asks.
     ensures each { IfOk result (λ needs. length needs ≡ length federation.now.federates) }

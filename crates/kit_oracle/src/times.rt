@@ -1,7 +1,7 @@
 //! Times, of which the first come out first.
 
 ghost use Rattle.std.specs.Prelude.{◌≡◌, ℕ, true, false, ◌<◌, ◌≤◌, [], ◌∷◌, length, OnOk};
-ghost use Rattle.kit_oracle.specs.Times.{later};
+ghost use Rattle.kit_oracle.specs.Times.{count_later};
 
 use std::alloc::{AllocError, Global};
 use std::cmp::Reverse;
@@ -35,7 +35,7 @@ impl Times {
     }
 
     pub(crate) fn push(&mut self, time: u64) -> Result<(), AllocError>
-        ensures { OnOk result ((t : ℕ) → later t self.new ≡ later t (time ∷ self.old)) }
+        ensures { OnOk result ((t : ℕ) → count_later t self.new ≡ count_later t (time ∷ self.old)) }
     {
         self.heap.push(Reverse(time))?;
         Ok(())
@@ -44,8 +44,8 @@ impl Times {
     /// Takes out the first time, if it is `by` or less, and says whether it did.
     fn pop_due(&mut self, by: u64) -> bool
         ensures some { result ≡ true → length self.new < length self.old }
-        ensures kept { (t : ℕ) → by ≤ t → later t self.new ≡ later t self.old }
-        ensures none { result ≡ false → length self.new ≡ later by self.new }
+        ensures kept { (t : ℕ) → by ≤ t → count_later t self.new ≡ count_later t self.old }
+        ensures none { result ≡ false → length self.new ≡ count_later by self.new }
     {
         match self.heap.peek() {
             Some(Reverse(time)) if *time <= by => {
@@ -58,8 +58,8 @@ impl Times {
 
     /// Takes out all that are `by` or less, and says how many are left.
     pub(crate) fn later_than(&mut self, by: u64) -> usize
-        ensures kept { (t : ℕ) → by ≤ t → later t self.new ≡ later t self.old }
-        ensures count { result ≡ later by self.old }
+        ensures kept { (t : ℕ) → by ≤ t → count_later t self.new ≡ count_later t self.old }
+        ensures count { result ≡ count_later by self.old }
     {
         while self.pop_due(by) {}
         self.heap.len()

@@ -1,6 +1,7 @@
 -- The words and the input cause one status and one text.
 use Rattle.std.proofs.Common.{◌≡◌, ◌≢◌, ◌⊎◌, inl, inr, ◌≤◌, ◌+◌, ℕ, List, [], ◌∷◌, length, Option, Some, None, IfSome, Result, Ok, Err, codes, refl, sym, subst, ap, ◌∙◌, arith}
 use Rattle.serde_json.specs.Data.{Data}
+use Rattle.kit_io.specs.declared.source.Source.{Ghosts}
 use Rattle.kit_io.specs.Causes.{Took}
 use Rattle.kit_rules.specs.Parts.{Parts}
 use Rattle.kit_rules.specs.Simulation.{spender}
@@ -12,7 +13,7 @@ use Rattle.kit_top.specs.declared.command.Command.{Command}
 use Rattle.kit_top.specs.declared.command.Command.TheVariants.{Oracle, Check}
 use Rattle.kit_top.specs.declared.status.Status.{Status}
 use Rattle.kit_top.specs.declared.status.Status.TheVariants.{Done, Usage, ReadFault, TooLong, BadFile, SendsSpent, WriteFault, NoMemory}
-use Rattle.kit_top.specs.Causes.{Causes, FileCauses, FederationCauses, Reading, IsCommand, IsWhole, IsBadFile, bad_file_text, spent_text, text_of, OneCause, most_bytes}
+use Rattle.kit_top.specs.Causes.{Causes, FileCauses, FederationCauses, IsCommand, IsNoCommand, IsWhole, IsThis, IsBadFile, bad_file_text, spent_text, text_of, OneCause, Completes, most_bytes}
 
 some_same : {X : Type 0} (x y : X) → Some x ≡ Some y → x ≡ y
 some_same x y e = cc
@@ -130,37 +131,6 @@ file_same command bytes s t a b h k =
       ]
     ]
 
--- what the words and the input cause, but for a read that failed: that the words are wrong, that the input is too
--- long, or what the file causes
-record Whole (words : List (List ℕ)) (r : Reading) (s : Status) (a : List ℕ) : Type 0 where
-  command : Command
-  word : IsCommand words command
-  bytes : List ℕ
-  whole : IsWhole r bytes
-  file : FileCauses command bytes s a
-
-record Long (words : List (List ℕ)) (r : Reading) (s : Status) (a : List ℕ) : Type 0 where
-  status : s ≡ TooLong
-  command : Command
-  word : IsCommand words command
-  took : Took r.before r.after (most_bytes + 1)
-  text : a ≡ codes "fault TooLong\n"
-
-record Wrong (words : List (List ℕ)) (r : Reading) (s : Status) (a : List ℕ) : Type 0 where
-  status : s ≡ Usage
-  word : (command : Command) → IsCommand words command → ⊥
-  text : a ≡ codes "fault Usage\n"
-
-cases : (words : List (List ℕ)) (r : Reading) (s : Status) (a : List ℕ) → s ≢ ReadFault → Causes words r s a → Whole words r s a ⊎ (Long words r s a ⊎ Wrong words r s a)
-cases words r Usage a other h = inr (inr (record { status = refl; word = h.0; text = h.2 }))
-cases words r ReadFault a other h = absurd (other refl)
-cases words r TooLong a other h = inr (inl (record { status = refl; command = h.0; word = h.1; took = h.2; text = h.3 }))
-cases words r Done a other h = inl (record { command = h.0; word = h.1; bytes = h.2; whole = h.3; file = h.4 })
-cases words r (BadFile f) a other h = inl (record { command = h.0; word = h.1; bytes = h.2; whole = h.3; file = h.4 })
-cases words r (SendsSpent i) a other h = inl (record { command = h.0; word = h.1; bytes = h.2; whole = h.3; file = h.4 })
-cases words r WriteFault a other h = inl (record { command = h.0; word = h.1; bytes = h.2; whole = h.3; file = h.4 })
-cases words r NoMemory a other h = inl (record { command = h.0; word = h.1; bytes = h.2; whole = h.3; file = h.4 })
-
 -- words are those of one command
 command_same : (words : List (List ℕ)) (c d : Command) → IsCommand words c → IsCommand words d → c ≡ d
 command_same words Oracle Oracle a b = refl
@@ -180,31 +150,95 @@ not_long (Some ys) after xs bytes e is short took =
     let same : length bytes ≡ length ys = ap length (is ∙ sym (some_same ys xs e)) in
     absurd (omega (arith, same, short, took.0))
 
-whole_not_long : (words : List (List ℕ)) (r : Reading) (xs : List ℕ) (s t : Status) (a b : List ℕ) → r.before ≡ Some xs → Whole words r s a → Long words r t b → ⊥
-whole_not_long words r xs s t a b e x y = not_long r.before r.after xs x.bytes e (all_left r.before xs x.bytes e x.whole.all) x.whole.short y.took
+-- the words are wrong
+record Wrong (words : List (List ℕ)) (s : Status) (a : List ℕ) : Type 0 where
+  status : s ≡ Usage
+  word : IsNoCommand words
+  text : a ≡ codes "fault Usage\n"
 
-whole_same : (words : List (List ℕ)) (r : Reading) (xs : List ℕ) (s t : Status) (a b : List ℕ) → r.before ≡ Some xs → Whole words r s a → Whole words r t b → (s ≡ t) × (a ≡ b)
-whole_same words r xs s t a b e x y =
-    let same : y.bytes ≡ x.bytes = all_left r.before xs y.bytes e y.whole.all ∙ sym (all_left r.before xs x.bytes e x.whole.all) in
-    let P : List ℕ → Type 0 = λ bytes. FileCauses y.command bytes t b in
-    let Q : Command → Type 0 = λ command. FileCauses command x.bytes t b in
-    file_same x.command x.bytes s t a b x.file (subst Q (command_same words y.command x.command y.word x.word) (subst P same y.file))
+-- a status is that of a read that failed, or another
+read_fault_cases : (s : Status) → (s ≡ ReadFault) ⊎ (s ≢ ReadFault)
+read_fault_cases ReadFault = inl refl
+read_fault_cases Done = inr (λ e. absurd (cc))
+read_fault_cases Usage = inr (λ e. absurd (cc))
+read_fault_cases TooLong = inr (λ e. absurd (cc))
+read_fault_cases (BadFile f) = inr (λ e. absurd (cc))
+read_fault_cases (SendsSpent i) = inr (λ e. absurd (cc))
+read_fault_cases WriteFault = inr (λ e. absurd (cc))
+read_fault_cases NoMemory = inr (λ e. absurd (cc))
 
-pub one_cause_law : OneCause
-one_cause_law words r xs s t a b e not_s not_t h k =
-    elim (cases words r s a not_s h) [
-      | inl x ↦ elim (cases words r t b not_t k) [
-        | inl y ↦ whole_same words r xs s t a b e x y
-        | inr yy ↦ elim yy [ inl y ↦ absurd (whole_not_long words r xs s t a b e x y) | inr y ↦ absurd (y.word x.command x.word) ]
-      ]
-      | inr xx ↦ elim xx [
-        | inl x ↦ elim (cases words r t b not_t k) [
-          | inl y ↦ absurd (whole_not_long words r xs t s b a e y x)
-          | inr yy ↦ elim yy [ inl y ↦ (x.status ∙ sym y.status, x.text ∙ sym y.text) | inr y ↦ absurd (y.word x.command x.word) ]
+-- the file of a federation in which nobody takes number 16,385 causes the text of the command
+file_done : (command : Command) (bytes : List ℕ) (p : Parts) (s : Status) (a : List ℕ) → IsAccepted bytes p → spender p ≡ None → FileCauses command bytes s a → IsThis Done (text_of command p) s a
+file_done command bytes p s a accepted none h = file_same command bytes s Done a (text_of command p) h (p, accepted, (none, refl))
+
+module _ {S : Type 0} (g : Ghosts S) where
+  -- what the words and the input cause, but for a read that failed: what the file causes, or that the input is too
+  -- long, or that the words are wrong
+  record Whole (words : List (List ℕ)) (old new : S) (s : Status) (a : List ℕ) : Type 0 where
+    command : Command
+    word : IsCommand words command
+    bytes : List ℕ
+    whole : IsWhole g old new bytes
+    file : FileCauses command bytes s a
+
+  record Long (words : List (List ℕ)) (old new : S) (s : Status) (a : List ℕ) : Type 0 where
+    status : s ≡ TooLong
+    command : Command
+    word : IsCommand words command
+    took : Took (g.left old) (g.left new) (most_bytes + 1)
+    text : a ≡ codes "fault TooLong\n"
+
+  cases : (words : List (List ℕ)) (old new : S) (s : Status) (a : List ℕ) → s ≢ ReadFault → Causes g words old new s a → Whole words old new s a ⊎ (Long words old new s a ⊎ Wrong words s a)
+  cases words old new Usage a other h = inr (inr (record { status = refl; word = h.0; text = h.2 }))
+  cases words old new ReadFault a other h = absurd (other refl)
+  cases words old new TooLong a other h = inr (inl (record { status = refl; command = h.0; word = h.1; took = h.2; text = h.3 }))
+  cases words old new Done a other h = inl (record { command = h.0; word = h.1; bytes = h.2; whole = h.3; file = h.4 })
+  cases words old new (BadFile f) a other h = inl (record { command = h.0; word = h.1; bytes = h.2; whole = h.3; file = h.4 })
+  cases words old new (SendsSpent i) a other h = inl (record { command = h.0; word = h.1; bytes = h.2; whole = h.3; file = h.4 })
+  cases words old new WriteFault a other h = inl (record { command = h.0; word = h.1; bytes = h.2; whole = h.3; file = h.4 })
+  cases words old new NoMemory a other h = inl (record { command = h.0; word = h.1; bytes = h.2; whole = h.3; file = h.4 })
+
+  whole_not_long : (words : List (List ℕ)) (old new : S) (xs : List ℕ) (s t : Status) (a b : List ℕ) → g.left old ≡ Some xs → Whole words old new s a → Long words old new t b → ⊥
+  whole_not_long words old new xs s t a b e x y = not_long (g.left old) (g.left new) xs x.bytes e (all_left (g.left old) xs x.bytes e x.whole.all) x.whole.short y.took
+
+  -- what bytes that were taken whole cause, the bytes that were left cause, by the command of the words
+  whole_causes : (words : List (List ℕ)) (old new : S) (command : Command) (xs : List ℕ) (s : Status) (a : List ℕ) → g.left old ≡ Some xs → IsCommand words command → Whole words old new s a → FileCauses command xs s a
+  whole_causes words old new command xs s a e word x =
+      let P : List ℕ → Type 0 = λ bytes. FileCauses x.command bytes s a in
+      let Q : Command → Type 0 = λ command. FileCauses command xs s a in
+      subst Q (command_same words x.command command x.word word) (subst P (all_left (g.left old) xs x.bytes e x.whole.all) x.file)
+
+  whole_same : (words : List (List ℕ)) (old new : S) (xs : List ℕ) (s t : Status) (a b : List ℕ) → g.left old ≡ Some xs → Whole words old new s a → Whole words old new t b → (s ≡ t) × (a ≡ b)
+  whole_same words old new xs s t a b e x y = file_same x.command xs s t a b (whole_causes words old new x.command xs s a e x.word x) (whole_causes words old new x.command xs t b e x.word y)
+
+  pub one_cause_law : OneCause g
+  one_cause_law words old new xs s t a b e not_s not_t h k =
+      elim (cases words old new s a not_s h) [
+        | inl x ↦ elim (cases words old new t b not_t k) [
+          | inl y ↦ whole_same words old new xs s t a b e x y
+          | inr yy ↦ elim yy [ inl y ↦ absurd (whole_not_long words old new xs s t a b e x y) | inr y ↦ absurd (y.word x.command x.word) ]
         ]
-        | inr x ↦ elim (cases words r t b not_t k) [
-          | inl y ↦ absurd (x.word y.command y.word)
-          | inr yy ↦ elim yy [ inl y ↦ absurd (x.word y.command y.word) | inr y ↦ (x.status ∙ sym y.status, x.text ∙ sym y.text) ]
+        | inr xx ↦ elim xx [
+          | inl x ↦ elim (cases words old new t b not_t k) [
+            | inl y ↦ absurd (whole_not_long words old new xs t s b a e y x)
+            | inr yy ↦ elim yy [ inl y ↦ (x.status ∙ sym y.status, x.text ∙ sym y.text) | inr y ↦ absurd (y.word x.command x.word) ]
+          ]
+          | inr x ↦ elim (cases words old new t b not_t k) [
+            | inl y ↦ absurd (x.word y.command y.word)
+            | inr yy ↦ elim yy [ inl y ↦ absurd (x.word y.command y.word) | inr y ↦ (x.status ∙ sym y.status, x.text ∙ sym y.text) ]
+          ]
         ]
       ]
-    ]
+
+  pub completes_law : Completes g
+  completes_law words old new command p s a can h =
+      elim (read_fault_cases s) [
+        | inl fault ↦ inr fault
+        | inr other ↦ elim (cases words old new s a other h) [
+          | inl x ↦ inl (file_done command can.input p s a can.accepted can.within (whole_causes words old new command can.input s a can.told can.word x))
+          | inr xx ↦ elim xx [
+            | inl x ↦ absurd (not_long (g.left old) (g.left new) can.input can.input can.told refl can.short x.took)
+            | inr x ↦ absurd (x.word command can.word)
+          ]
+        ]
+      ]

@@ -4,12 +4,12 @@ use Rattle.std.specs.Io.KnownBytes.{Appends}
 use Rattle.kit_top.specs.declared.command.Command.{Command}
 use Rattle.kit_top.specs.declared.status.Status.{Status}
 use Rattle.kit_top.specs.declared.status.Status.TheVariants.{Done, Usage, ReadFault, TooLong, BadFile, SendsSpent, WriteFault, NoMemory}
+use Rattle.kit_io.specs.declared.source.Source.{Ghosts}
 use Rattle.kit_rules.specs.Parts.{Parts}
-use Rattle.kit_rules.specs.Simulation.{spender}
 use Rattle.kit_file.specs.declared.fault.FileFault.{FileFault}
 use Rattle.kit_file.specs.declared.fault.FileFault.TheVariants as file
 use Rattle.kit_file.specs.Answers.{IsAccepted, IsFaultAtPath, IsNoJson}
-use Rattle.kit_top.specs.Causes.{Told, Causes, FileCauses, FederationCauses, Reading, IsCommand, IsWhole, IsBadFile, IsTheFault, IsTheSpender, IsAnswered}
+use Rattle.kit_top.specs.Causes.{Told, Causes, FileCauses, FederationCauses, HasText, IsCommand, IsWhole, IsBadFile, IsTheFault, IsThis, IsAnswered}
 
 pub told_weaker : (A B : Status → List ℕ → Type 0) (old new : Option (List ℕ)) (s : Status) → ((s : Status) (text : List ℕ) → A s text → B s text) → Told A old new s → Told B old new s
 told_weaker A B old new Done f h = (h.0, f Done h.0 h.1, h.2)
@@ -32,16 +32,16 @@ file_causes command bytes p form (SendsSpent i) text h = (p, form, h)
 file_causes command bytes p form WriteFault text h = absurd h
 file_causes command bytes p form NoMemory text h = absurd h
 
--- what a command makes of a file, its word and a reading of the file cause
-pub command_causes : (words : List (List ℕ)) (r : Reading) (command : Command) (bytes : List ℕ) → IsCommand words command → IsWhole r bytes → (s : Status) (text : List ℕ) → FileCauses command bytes s text → Causes words r s text
-command_causes words r command bytes word whole Done text h = (command, word, bytes, whole, h)
-command_causes words r command bytes word whole Usage text h = absurd h.2
-command_causes words r command bytes word whole ReadFault text h = absurd h.2
-command_causes words r command bytes word whole TooLong text h = absurd h.2
-command_causes words r command bytes word whole (BadFile x) text h = (command, word, bytes, whole, h)
-command_causes words r command bytes word whole (SendsSpent i) text h = (command, word, bytes, whole, h)
-command_causes words r command bytes word whole WriteFault text h = (command, word, bytes, whole, h)
-command_causes words r command bytes word whole NoMemory text h = (command, word, bytes, whole, h)
+-- what a command makes of a file, its word and a source that was read whole cause
+pub command_causes : {S : Type 0} (g : Ghosts S) (words : List (List ℕ)) (old new : S) (command : Command) (bytes : List ℕ) → IsCommand words command → IsWhole g old new bytes → (s : Status) (text : List ℕ) → FileCauses command bytes s text → Causes g words old new s text
+command_causes g words old new command bytes word whole Done text h = (command, word, bytes, whole, h)
+command_causes g words old new command bytes word whole Usage text h = absurd h.2
+command_causes g words old new command bytes word whole ReadFault text h = absurd h.2
+command_causes g words old new command bytes word whole TooLong text h = absurd h.2
+command_causes g words old new command bytes word whole (BadFile x) text h = (command, word, bytes, whole, h)
+command_causes g words old new command bytes word whole (SendsSpent i) text h = (command, word, bytes, whole, h)
+command_causes g words old new command bytes word whole WriteFault text h = (command, word, bytes, whole, h)
+command_causes g words old new command bytes word whole NoMemory text h = (command, word, bytes, whole, h)
 
 -- what the reader of files says of a fault
 bad_file : (bytes : List ℕ) (f : FileFault) → IsFaultAtPath bytes f → (f ≡ file.NotJson → IsNoJson bytes) → f ≢ file.NoMemory → IsBadFile bytes f
@@ -59,19 +59,36 @@ bad_file bytes file.NoMemory at not_json other = absurd (other refl)
 pub bad_file_causes : (command : Command) (bytes : List ℕ) (f : FileFault) → IsFaultAtPath bytes f → (f ≡ file.NotJson → IsNoJson bytes) → (s : Status) (text : List ℕ) → IsTheFault f s text → FileCauses command bytes s text
 bad_file_causes command bytes f at not_json s text h =
     let P : Status → Type 0 = λ s. FileCauses command bytes s text in
-    subst P (sym h.1) (bad_file bytes f at not_json h.0, h.2)
+    subst P (sym h.1.0) (bad_file bytes f at not_json h.0, h.1.1)
 
--- that a federate takes number 16,385, with its line, is caused by the federation
-pub spender_causes : (command : Command) (p : Parts) (i : ℕ) → spender p ≡ Some i → (s : Status) (text : List ℕ) → IsTheSpender p i s text → FederationCauses command p s text
-spender_causes command p i is s text h = let P : Status → Type 0 = λ s. FederationCauses command p s text in subst P (sym h.0) (is, h.1)
+-- a status with its text that is told is that status, told
+pub told_as : (status : Status) (words : List ℕ) (old new : Option (List ℕ)) → HasText status → Appends old new words → Told (IsThis status words) old new status
+told_as Done words old new has h = (words, (refl, refl), h)
+told_as Usage words old new has h = (words, (refl, refl), h)
+told_as ReadFault words old new has h = (words, (refl, refl), h)
+told_as TooLong words old new has h = (words, (refl, refl), h)
+told_as (BadFile x) words old new has h = (words, (refl, refl), h)
+told_as (SendsSpent i) words old new has h = (words, (refl, refl), h)
+told_as WriteFault words old new has h = absurd has
+told_as NoMemory words old new has h = absurd has
+
+-- what was told of a status and a text was told of what causes them
+pub told_by : (A : Status → List ℕ → Type 0) (status : Status) (words : List ℕ) (old new : Option (List ℕ)) (s : Status) → A status words → Told (IsThis status words) old new s → Told A old new s
+told_by A status words old new s cause h = told_weaker (IsThis status words) A old new s by_this h
+  where
+    by_this : (s : Status) (text : List ℕ) → IsThis status words s text → A s text
+    by_this s text is =
+        let P : Status → Type 0 = λ s. A s words in
+        let Q : List ℕ → Type 0 = λ text. A s text in
+        subst Q (sym is.1) (subst P (sym is.0) cause)
 
 -- what was told as Done is what the command asks
-pub answered_told : (words : List (List ℕ)) (r : Reading) (old new : Option (List ℕ)) (s : Status) → s ≡ Done → Told (Causes words r) old new s → IsAnswered words r old new
-answered_told words r old new s e h =
-    let T : Status → Type 0 = λ s. Told (Causes words r) old new s in
+pub answered_told : {S : Type 0} (g : Ghosts S) (words : List (List ℕ)) (from to : S) (old new : Option (List ℕ)) (s : Status) → s ≡ Done → Told (Causes g words from to) old new s → IsAnswered g words from to old new
+answered_told g words from to old new s e h =
+    let T : Status → Type 0 = λ s. Told (Causes g words from to) old new s in
     done (subst T e h)
   where
-    done : Told (Causes words r) old new Done → IsAnswered words r old new
+    done : Told (Causes g words from to) old new Done → IsAnswered g words from to old new
     done told =
         let cause = told.1 in
         let P : List ℕ → Type 0 = λ text. Appends old new text in

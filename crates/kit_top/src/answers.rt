@@ -1,15 +1,17 @@
 //! What the commands answer to a file.
 
-ghost use Rattle.std.specs.Prelude.{◌≡◌, ◌++◌, ◌<◌, None, Some, codes, length, IfOk, OnOk};
+ghost use Rattle.std.specs.Prelude.{◌≡◌, ◌<◌, None, Some, length, IfOk, OnOk};
 ghost use Rattle.kit_io.specs.Causes.{Rose};
 ghost use Rattle.kit_oracle.specs.Ends.{IfSpent};
 ghost use Rattle.kit_rules.specs.Simulation.{spender};
-ghost use Rattle.kit_top.specs.Causes.{FederationCauses, FileCauses, IsTheSpender, Told, spent_text, text_of};
+ghost use Rattle.kit_top.specs.Causes.{FederationCauses, FileCauses, IsThis, Told};
+ghost use Rattle.kit_top.specs.Causes.{spent_text, text_of};
 
 use crate::bad_file::tell_bad_file;
+use crate::writing::tell;
 use crate::{Command, Status};
 use kit_file::read_federation;
-use kit_io::{Sink, write_text};
+use kit_io::Sink;
 use kit_oracle::{OracleEnd, need, simulate};
 use kit_report::{need_text, text};
 use kit_rules::Federation;
@@ -27,15 +29,13 @@ fn spent_line(alloc: Global, federation: &Federation, federate: u8) -> Result<Ve
 
 fn tell_spent<K: Sink>(alloc: Global, federation: &Federation, federate: u8, sink: &mut K) -> Status
     requires { federate < length federation.now.federates }
-    ensures told { Told (IsTheSpender federation.now federate) (K.holds sink.old) (K.holds sink.new) result }
+    ensures told { Told (IsThis (Status.SendsSpent federate) (spent_text federation.now federate))
+        (K.holds sink.old) (K.holds sink.new) result }
     ensures fault { result ≡ Status.WriteFault → Rose (K.faults sink.old) (K.faults sink.new) }
 {
-    let Ok(line) = spent_line(alloc, federation, federate) else {
-        return Status::NoMemory;
-    };
-    match write_text(sink, &line) {
-        Ok(()) => Status::SendsSpent { federate },
-        Err(_) => Status::WriteFault,
+    match spent_line(alloc, federation, federate) {
+        Ok(line) => tell(sink, &line, Status::SendsSpent { federate }),
+        Err(AllocError) => Status::NoMemory,
     }
 }
 
@@ -43,6 +43,7 @@ fn oracle_text(alloc: Global, federation: &Federation) -> Result<Vec<u8>, Oracle
     ensures text { IfOk result (λ text. text.items ≡ text_of Command.Oracle federation.now) }
     ensures none { OnOk result (spender federation.now ≡ None) }
     ensures spent { IfSpent result (λ i. spender federation.now ≡ Some i) }
+    ensures within { IfSpent result (λ i. i < length federation.now.federates) }
 {
     let history = simulate(alloc, federation)?;
     let text = text(alloc, federation, &history)?;
@@ -53,6 +54,7 @@ fn check_text(alloc: Global, federation: &Federation) -> Result<Vec<u8>, OracleE
     ensures text { IfOk result (λ text. text.items ≡ text_of Command.Check federation.now) }
     ensures none { OnOk result (spender federation.now ≡ None) }
     ensures spent { IfSpent result (λ i. spender federation.now ≡ Some i) }
+    ensures within { IfSpent result (λ i. i < length federation.now.federates) }
 {
     let needs = need(alloc, federation)?;
     let text = need_text(alloc, federation, needs.as_slice())?;
@@ -68,6 +70,7 @@ fn command_text(
     ensures text { IfOk result (λ text. text.items ≡ text_of command federation.now) }
     ensures none { OnOk result (spender federation.now ≡ None) }
     ensures spent { IfSpent result (λ i. spender federation.now ≡ Some i) }
+    ensures within { IfSpent result (λ i. i < length federation.now.federates) }
 {
     match command {
         Command::Oracle => oracle_text(alloc, federation),
@@ -81,21 +84,14 @@ fn tell_federation<K: Sink>(
     federation: &Federation,
     sink: &mut K,
 ) -> Status
-    ensures told { Told (FederationCauses command federation.now) (K.holds sink.old) (K.holds sink.new) result }
+    ensures told { Told (FederationCauses command federation.now)
+        (K.holds sink.old) (K.holds sink.new) result }
     ensures fault { result ≡ Status.WriteFault → Rose (K.faults sink.old) (K.faults sink.new) }
 {
-    // It keeps its limits: what the simulation says of it can be relied on.
-    let _federates = federation.count();
-    let text = match command_text(alloc, command, federation) {
-        Ok(text) => text,
-        Err(OracleEnd::SendsSpent { federate }) => {
-            return tell_spent(alloc, federation, federate, sink);
-        }
-        Err(OracleEnd::NoMemory) => return Status::NoMemory,
-    };
-    match write_text(sink, &text) {
-        Ok(()) => Status::Done,
-        Err(_) => Status::WriteFault,
+    match command_text(alloc, command, federation) {
+        Ok(text) => tell(sink, &text, Status::Done),
+        Err(OracleEnd::SendsSpent { federate }) => tell_spent(alloc, federation, federate, sink),
+        Err(OracleEnd::NoMemory) => Status::NoMemory,
     }
 }
 
@@ -106,7 +102,8 @@ pub(crate) fn tell_file<K: Sink>(
     bytes: &[u8],
     sink: &mut K,
 ) -> Status
-    ensures told { Told (FileCauses command bytes.now) (K.holds sink.old) (K.holds sink.new) result }
+    ensures told { Told (FileCauses command bytes.now)
+        (K.holds sink.old) (K.holds sink.new) result }
     ensures fault { result ≡ Status.WriteFault → Rose (K.faults sink.old) (K.faults sink.new) }
 {
     match read_federation(alloc, bytes) {

@@ -1,13 +1,13 @@
 //! The lines of what is wrong with a file.
 
-ghost use Rattle.std.specs.Prelude.{◌≡◌, ◌≢◌, Err, IfOk, IfErr, OnOk};
-ghost use Rattle.std.specs.Io.KnownBytes.{Appends};
+ghost use Rattle.std.specs.Prelude.{◌≡◌, ◌≢◌, IfOk, OnOk};
 ghost use Rattle.kit_io.specs.Causes.{Rose};
 ghost use Rattle.kit_top.specs.Causes.{IsTheFault, Told, path_text, bad_file_text};
 
 use crate::Status;
+use crate::writing::tell;
 use kit_file::{FaultPath, FileFault};
-use kit_io::{Sink, write_text};
+use kit_io::Sink;
 use std::alloc::{AllocError, Global};
 
 fn path_line(alloc: Global, kind: &str, path: &FaultPath) -> Result<Vec<u8>, AllocError>
@@ -38,32 +38,13 @@ fn bad_file_line(alloc: Global, fault: &FileFault) -> Result<Vec<u8>, AllocError
     }
 }
 
-// Writes the line, or says by which status it was not written whole.
-fn write_bad_file<K: Sink>(alloc: Global, fault: &FileFault, sink: &mut K) -> Result<(), Status>
-    ensures written { OnOk result (Appends (K.holds sink.old) (K.holds sink.new) (bad_file_text fault.now)) }
-    ensures named { OnOk result (fault.now ≢ FileFault.NoMemory) }
-    ensures told { IfErr result (λ s. Told (IsTheFault fault.now) (K.holds sink.old) (K.holds sink.new) s) }
-    ensures fault { result ≡ Err Status.WriteFault → Rose (K.faults sink.old) (K.faults sink.new) }
-{
-    let Ok(line) = bad_file_line(alloc, fault) else {
-        return Err(Status::NoMemory);
-    };
-    match write_text(sink, &line) {
-        Ok(()) => Ok(()),
-        Err(_) => Err(Status::WriteFault),
-    }
-}
-
 /// Writes the line of a fault of the file.
 pub(crate) fn tell_bad_file<K: Sink>(alloc: Global, fault: FileFault, sink: &mut K) -> Status
     ensures told { Told (IsTheFault fault) (K.holds sink.old) (K.holds sink.new) result }
     ensures fault { result ≡ Status.WriteFault → Rose (K.faults sink.old) (K.faults sink.new) }
 {
-    match write_bad_file(alloc, &fault, sink) {
-        Ok(()) => Status::BadFile(fault),
-        Err(status) => {
-            drop(fault);
-            status
-        }
+    match bad_file_line(alloc, &fault) {
+        Ok(line) => tell(sink, &line, Status::BadFile(fault)),
+        Err(AllocError) => Status::NoMemory,
     }
 }

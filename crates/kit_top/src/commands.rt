@@ -2,39 +2,33 @@
 
 ghost use Rattle.std.specs.Prelude.{◌≡◌};
 ghost use Rattle.kit_io.specs.Causes.{Rose};
-ghost use Rattle.kit_top.specs.Causes.{IsAnswered, Causes, OneCause, Told, reading};
+ghost use Rattle.kit_top.specs.Causes.{Causes, IsAnswered, IsNoCommand, Told};
+ghost use Rattle.kit_top.specs.Causes.{Completes, OneCause};
 
 use crate::answers::tell_file;
+use crate::writing::tell;
 use crate::{Command, Status, Word};
-use kit_io::{ReadEnd, Sink, Source, read_all, write_text};
+use kit_io::{ReadEnd, Sink, Source, read_all};
 use std::alloc::Global;
 
 /// The most bytes of an input.
 const MOST_BYTES: usize = 1_048_576;
 
-// Each status has its cause, and its text was written whole; a front of it for WriteFault, nothing
-// for NoMemory.
+/// Answers the words by the source's bytes.
 fn answer<S: Source, K: Sink>(alloc: Global, words: &[Word], source: &mut S, sink: &mut K) -> Status
-    ensures told { Told (Causes words.now (reading (S.left source.old) (S.left source.new) (S.ended source.new) (S.faults source.old) (S.faults source.new))) (K.holds sink.old) (K.holds sink.new) result }
+    ensures told { Told (Causes S.Source words.now source.old source.new)
+        (K.holds sink.old) (K.holds sink.new) result }
     ensures fault { result ≡ Status.WriteFault → Rose (K.faults sink.old) (K.faults sink.new) }
+    ensures unread { IsNoCommand words.now → source.new ≡ source.old }
 {
     let Some(command) = Command::of(words) else {
-        return match write_text(sink, b"fault Usage\n") {
-            Ok(()) => Status::Usage,
-            Err(_) => Status::WriteFault,
-        };
+        return tell(sink, b"fault Usage\n", Status::Usage);
     };
     match read_all(alloc, source, MOST_BYTES) {
         Ok(bytes) => tell_file(alloc, command, &bytes, sink),
         Err(ReadEnd::NoMemory) => Status::NoMemory,
-        Err(ReadEnd::TooLong) => match write_text(sink, b"fault TooLong\n") {
-            Ok(()) => Status::TooLong,
-            Err(_) => Status::WriteFault,
-        },
-        Err(ReadEnd::ReadFault) => match write_text(sink, b"fault ReadFault\n") {
-            Ok(()) => Status::ReadFault,
-            Err(_) => Status::WriteFault,
-        },
+        Err(ReadEnd::TooLong) => tell(sink, b"fault TooLong\n", Status::TooLong),
+        Err(ReadEnd::ReadFault) => tell(sink, b"fault ReadFault\n", Status::ReadFault),
     }
 }
 
@@ -53,18 +47,30 @@ pub fn plain<S: Source, K: Sink>(
 ) -> Status
     // Done: what was written is what the command asks of the file: for `oracle` the text of its
     // sequential timestamp-ordered simulation, for `check` that of its needs.
-    ensures done { result ≡ Status.Done → IsAnswered words.now (reading (S.left source.old) (S.left source.new) (S.ended source.new) (S.faults source.old) (S.faults source.new)) (K.holds sink.old) (K.holds sink.new) }
+    ensures done { result ≡ Status.Done →
+        IsAnswered S.Source words.now source.old source.new (K.holds sink.old) (K.holds sink.new) }
 
     // Each status has its cause, and its text was written whole; a front of it for WriteFault,
     // nothing for NoMemory.
-    ensures told { Told (Causes words.now (reading (S.left source.old) (S.left source.new) (S.ended source.new) (S.faults source.old) (S.faults source.new))) (K.holds sink.old) (K.holds sink.new) result }
+    ensures told { Told (Causes S.Source words.now source.old source.new)
+        (K.holds sink.old) (K.holds sink.new) result }
     ensures fault { result ≡ Status.WriteFault → Rose (K.faults sink.old) (K.faults sink.new) }
+
+    // For words of no command the source is left as it is, whatever the status.
+    ensures unread { IsNoCommand words.now → source.new ≡ source.old }
 {
     answer(alloc, words, source, sink)
 }
 
 /// Where the source tells its bytes and no read failed, the words and the input cause one status
 /// and one text: so each status comes exactly where it has its cause.
-pub fn one_cause()
-    ensures { OneCause }
+pub fn one_cause<S: Source>()
+    ensures { OneCause S.Source }
+{}
+
+/// Where the words are those of a command, the source tells its bytes, which are not too many and
+/// the file of a federation, and nobody takes number 16,385 in its simulation, the command is
+/// answered: no status but Done and ReadFault has its cause, and Done with the text of the command.
+pub fn completeness<S: Source>()
+    ensures { Completes S.Source }
 {}

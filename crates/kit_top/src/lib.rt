@@ -7,9 +7,10 @@ mod command;
 mod commands;
 mod status;
 mod word;
+mod writing;
 
 pub use command::Command;
-pub use commands::{one_cause, plain};
+pub use commands::{completeness, one_cause, plain};
 pub use status::Status;
 pub use word::Word;
 

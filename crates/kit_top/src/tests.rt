@@ -1,7 +1,7 @@
 mod files;
 
 use super::*;
-use files::{FAULTS, NEEDS, TEXTS};
+use files::{FAULTS, NEEDS, RADAR, RADAR_FIRST, RADAR_LAST, TEXTS};
 use kit_io::{MemorySink, MemorySource};
 use std::alloc::{AllocError, Global};
 use std::test::*;
@@ -19,7 +19,7 @@ fn words_of(alloc: Global, line: &str) -> Result<Vec<Word>, AllocError> {
 fn run(alloc: Global, line: &str, input: &[u8]) -> Result<(u8, Vec<u8>), AllocError> {
     let words = words_of(alloc, line)?;
     let mut source = MemorySource::new(Vec::from_slice(alloc, input)?, usize::MAX, Vec::new(alloc));
-    let mut sink = MemorySink::new(alloc, 4_096, usize::MAX, Vec::new(alloc))?;
+    let mut sink = MemorySink::new(alloc, 65_536, usize::MAX, Vec::new(alloc))?;
     let status = plain(alloc, &words, &mut source, &mut sink);
     Ok((status.code(), Vec::from_slice(alloc, sink.held())?))
 }
@@ -56,6 +56,16 @@ fn files_give_their_texts(rt: HostRuntime) -> Result<(), AllocError> {
         assert_eq!(rt; code, 0, "{file}");
         assert_eq!(rt; held.as_slice(), text.as_bytes(), "{file}");
     }
+    Ok(())
+}
+
+#[test]
+fn the_radar_runs_to_its_end(rt: HostRuntime) -> Result<(), AllocError> {
+    let (code, held) = run(rt.alloc(), "oracle", RADAR.as_bytes())?;
+    assert_eq!(rt; code, 0);
+    assert_eq!(rt; held.iter().filter(|byte| **byte == b'\n').count(), 1_056);
+    assert!(rt; held.starts_with(RADAR_FIRST.as_bytes()));
+    assert!(rt; held.ends_with(RADAR_LAST.as_bytes()));
     Ok(())
 }
 
@@ -134,9 +144,15 @@ fn other_words_are_a_usage_fault(rt: HostRuntime) -> Result<(), AllocError> {
 #[test]
 fn numbers_end_at_16384(rt: HostRuntime) -> Result<(), AllocError> {
     let file = many_sends(rt.alloc(), "16")?;
+    let mut text = Vec::new(rt.alloc());
+    for time in 1..=16u8 {
+        let line = format!(in rt.alloc(); "{time} a grant\n")?;
+        text.extend_from_slice(line.as_bytes())?;
+    }
+    text.extend_from_slice(b"end a\n")?;
     let (code, held) = run(rt.alloc(), "oracle", &file)?;
     assert_eq!(rt; code, 0);
-    assert_eq!(rt; held.iter().filter(|byte| **byte == b'\n').count(), 17);
+    assert_eq!(rt; held.as_slice(), text.as_slice());
 
     let file = many_sends(rt.alloc(), "17")?;
     for word in ["oracle", "check"] {

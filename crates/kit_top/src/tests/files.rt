@@ -40,9 +40,26 @@ const LISTENER: &str =
 const NO_LISTENER: &str =
     r#"{"version":1,"end":10,"buffers":1,"federates":[{"name":"a","lookahead":5,"advance":{"tar":5}},{"name":"b","regulating":false,"lookahead":1,"advance":{"tar":1}}]}"#;
 
+/// The first file with a further key at its top.
+const WITH_A_NOTE: &str =
+    r#"{"version":1,"end":3,"buffers":1,"federates":[{"name":"a","lookahead":1,"advance":{"tar":1}}],"note":[1.5]}"#;
+
+/// A radar, a tower, four planes and a logger.
+pub(crate) const RADAR: &str =
+    r#"{"version":1,"end":600,"buffers":3,"groups":[{"name":"sky","members":["p1","p2","p3","p4"]},{"name":"echoes","members":["tower","logger"]},{"name":"advice","members":["logger"]}],"federates":[{"name":"radar","lookahead":5,"advance":{"tar":10},"rules":[{"on":"grant","do":[{"send":"sky","delay":5,"value":"$now"}]}]},{"name":"tower","lookahead":10,"advance":{"tar":30},"vars":[{"name":"seen","value":0},{"name":"last","value":0}],"rules":[{"on":{"got":"echoes"},"do":[{"add":"seen","by":1}]},{"on":"grant","if":[{"left":"$now","is":"le","right":300}],"do":[{"retract":"last"}]},{"on":"grant","do":[{"send":"advice","delay":40,"value":"seen","keep":"last"}]}]},{"name":"p1","lookahead":2,"advance":{"ner":600},"vars":[{"name":"swept","value":0}],"rules":[{"on":{"got":"sky"},"do":[{"add":"swept","by":1},{"send":"echoes","delay":2,"value":1}]}]},{"name":"p2","lookahead":2,"advance":{"ner":600},"vars":[{"name":"swept","value":0}],"rules":[{"on":{"got":"sky"},"do":[{"add":"swept","by":1},{"send":"echoes","delay":2,"value":2}]}]},{"name":"p3","lookahead":2,"advance":{"ner":600},"vars":[{"name":"swept","value":0}],"rules":[{"on":{"got":"sky"},"do":[{"add":"swept","by":1},{"send":"echoes","delay":2,"value":3}]}]},{"name":"p4","lookahead":2,"advance":{"ner":600},"vars":[{"name":"swept","value":0}],"rules":[{"on":{"got":"sky"},"do":[{"add":"swept","by":1},{"send":"echoes","delay":2,"value":4}]}]},{"name":"logger","lookahead":1,"advance":{"tar":50},"vars":[{"name":"heard","value":0},{"name":"advised","value":0}],"rules":[{"on":{"got":"echoes"},"do":[{"add":"heard","by":1}]},{"on":{"got":"advice"},"do":[{"add":"advised","by":1}]}]}]}"#;
+
+/// The first lines of its simulation's text.
+pub(crate) const RADAR_FIRST: &str =
+    "10 radar grant\n15 p1 got sky radar#1 @15 = 10\n15 p1 grant\n";
+
+/// The last lines of that text.
+pub(crate) const RADAR_LAST: &str =
+    "end radar\nend tower seen=236 last=29\nend p1 swept=59\nend p2 swept=59\nend p3 swept=59\nend p4 swept=59\nend logger heard=236 advised=9\n";
+
 /// Files that are accepted, each with the text of its simulation.
-pub(crate) const TEXTS: [(&str, &str); 12] = [
+pub(crate) const TEXTS: [(&str, &str); 13] = [
     (ONE_FEDERATE, "1 a grant\n2 a grant\n3 a grant\nend a\n"),
+    (WITH_A_NOTE, "1 a grant\n2 a grant\n3 a grant\nend a\n"),
     (
         LATE_READER,
         "1 a grant\n2 a grant\n2 b got g a#1 @1 = 7\n2 b grant\nend a\nend b\n",
@@ -84,7 +101,11 @@ pub(crate) const TEXTS: [(&str, &str); 12] = [
 ];
 
 /// Files that are accepted, each with the text of its needs.
-pub(crate) const NEEDS: [(&str, &str); 6] = [
+pub(crate) const NEEDS: [(&str, &str); 7] = [
+    (
+        RADAR,
+        "need radar 1\nneed tower 3\nneed p1 1\nneed p2 1\nneed p3 1\nneed p4 1\nneed logger 0\nbuffers 3 enough\n",
+    ),
     (NEXT_EVENT, "need a 2\nneed b 0\nbuffers 2 enough\n"),
     (TAKEN_BACK_AT_ONCE, "need a 2\nneed b 0\nbuffers 2 enough\n"),
     (OWN_GROUP, "need a 0\nbuffers 1 enough\n"),

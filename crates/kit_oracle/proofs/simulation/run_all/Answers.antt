@@ -9,8 +9,8 @@ use Rattle.kit_rules.specs.Simulation.{World, world_at_start, next_grant, least_
 use Rattle.kit_oracle.specs.declared.desk.Desk.{Desk}
 use Rattle.kit_oracle.specs.declared.end.OracleEnd.{OracleEnd}
 use Rattle.kit_oracle.specs.Ends.{IfSpent}
-use Rattle.kit_oracle.specs.Queues.{front}
-use Rattle.kit_oracle.specs.Desks.{desks_of, desk_at, turned_at, waiting_at}
+use Rattle.kit_oracle.specs.Pending.{front_until}
+use Rattle.kit_oracle.specs.Desks.{desks_of, desk_at, desk_after_turn_at, waiting_at}
 use Rattle.kit_oracle.specs.Observing.{IsGrant}
 use Rattle.kit_oracle.proofs.Observed.{still_shows}
 use Rattle.kit_oracle.proofs.Progress.{Shows, few_desks, next_found, next_fits, over_here, turn_within, lines_next, told_of, granted_shows, spent_here, spent_of}
@@ -105,14 +105,14 @@ returns-in_err-grant-in-Some-clause-spent g c =
     let P : ℕ → Type 0 = λ i. spender fed ≡ Some i in
     let R : Result (Unit {0}) OracleEnd → Type 0 = λ r. IfSpent r P in
     let within = turn_within c.loop-turn._turn c.count.result c.end-end.result (length fed.federates) fed.end c.loop-turn-test.true c.count.ensures.value c.end-end.ensures.value in
-    subst R same (spent_of c.grant.result pair.1 (16385 < (turned_at fed pair c.loop-turn.desks.items).state.next) P c.grant.ensures.spent c.grant.ensures.past (λ past.
-    spent_here fed c.loop-turn._turn c.loop-turn.desks.items pair (shows g at) within (some_next g at) c.grant.ensures.was_room past))
+    subst R same (spent_of c.grant.result pair.1 (16385 < (desk_after_turn_at fed pair c.loop-turn.desks.items).state.next) P c.grant.ensures.spent c.grant.ensures.past (λ past.
+    spent_here fed c.loop-turn._turn c.loop-turn.desks.items pair c.count.ensures.sound (shows g at) within (some_next g at) past))
 
 -- the lines that the observer shows when it is told of the grant
 abbrev lines_before : (g : Over) (c : In-Some g) → List Line
 lines_before g c =
     lines_of (after_grants c.args.federation.now c.loop-turn._turn (world_at_start c.args.federation.now)).blocks
-    ++ map (line.Deliver c.in-Some.pair.0 c.in-Some.pair.1) (front c.in-Some.pair.0 (desk_at c.loop-turn.desks.items c.in-Some.pair.1).queue)
+    ++ map (line.Deliver c.in-Some.pair.0 c.in-Some.pair.1) (front_until c.in-Some.pair.0 (desk_at c.loop-turn.desks.items c.in-Some.pair.1).queue)
 
 pub grant-requires-in-Some : goal.grant-requires-in-Some
 grant-requires-in-Some g c =

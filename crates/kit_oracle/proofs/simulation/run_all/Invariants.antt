@@ -1,6 +1,6 @@
 -- the desks and the observer are those of the world after so many grants, and nobody has taken number 16,385
 use Rattle.std.proofs.Common.{◌≡◌, [], find, None}
-use Rattle.kit_laws.specs.Sane.{IsSane}
+use Rattle.kit_laws.proofs.Sane.{IsSane}
 use Rattle.kit_rules.specs.Simulation.{world_at_start, after_grants, lines_of, is_spent}
 use Rattle.kit_oracle.specs.Desks.{desks_of}
 use Rattle.kit_oracle.proofs.simulation.run_all.Given as goal

@@ -1,8 +1,9 @@
-use Rattle.std.proofs.Common.{◌∙◌, refl}
+use Rattle.std.proofs.Common.{◌∙◌, List, ℕ, subst}
 use Rattle.kit_top.specs.declared.status.Status.TheVariants.{SendsSpent}
+use Rattle.kit_top.specs.Causes.{IsThis, Told}
 use Rattle.kit_top.proofs.answers.tell_spent.Goals as goal
 
-pub returns-clause-told : goal.returns-clause-told
-returns-clause-told g c =
-    let front = c.in-Err.ensures.prefix in
-    (SendsSpent c.args.federate, c.deref.result.now, (refl, c.deref.ensures.value ∙ c.in-Ok.ensures), front.0, front.1, front.2)
+pub returns-in-Ok-clause-told : goal.returns-in-Ok-clause-told
+returns-in-Ok-clause-told g c =
+    let T : List ℕ → Type 0 = λ text. Told (IsThis (SendsSpent c.args.federate) text) (g.K.Sink.holds c.args.sink.now) (g.K.Sink.holds c.tell.new.sink) c.tell.result in
+    subst T (c.deref.ensures.value ∙ c.in-Ok.ensures) c.tell.ensures.told

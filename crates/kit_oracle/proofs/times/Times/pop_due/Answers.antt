@@ -1,7 +1,7 @@
 use Rattle.std.proofs.Common.{◌∙◌, ◌∷◌, ◌<◌, ℕ, List, map, length, ap, sym, subst, refl}
 use Rattle.std.specs.List.Sorted.{IsPermutation}
 use Rattle.std.specs.BinaryHeap.{heap_items}
-use Rattle.kit_oracle.specs.Times.{later}
+use Rattle.kit_oracle.specs.Times.{count_later}
 use Rattle.kit_oracle.proofs.Later.{later_popped, all_later, first_taken, fewer_taken}
 use Rattle.kit_oracle.proofs.times.Times.pop_due.Goals as goal
 use Rattle.kit_oracle.proofs.times.Times.pop_due.Goals.{After-pop}
@@ -17,10 +17,10 @@ returns-in-Some-clause-some c e =
 
 pub returns-in-Some-clause-kept : goal.returns-in-Some-clause-kept
 returns-in-Some-clause-kept c t le =
-    later_popped (λ r. r.0) c.args.by t c.in-Some.field-0.now (heap_items c.self.inside.heap) (heap_items c.pop.new.self) (taken c) c.if-time-by.true le ∙ ap (later t) c.self.view_is
+    later_popped (λ r. r.0) c.args.by t c.in-Some.field-0.now (heap_items c.self.inside.heap) (heap_items c.pop.new.self) (taken c) c.if-time-by.true le ∙ ap (count_later t) c.self.view_is
 
 pub returns-in_default-clause-none : goal.returns-in_default-clause-none
 returns-in_default-clause-none c e =
     ap (λ (xs : List ℕ). length xs) (sym c.self.view_is)
     ∙ all_later (λ r. r.0) c.args.by c.in-Some.field-0.now (heap_items c.self.inside.heap) c.if-time-by.false (c.in-Some.ensures.greatest c.self.invariant)
-    ∙ ap (later c.args.by) c.self.view_is
+    ∙ ap (count_later c.args.by) c.self.view_is

@@ -1,9 +1,9 @@
 use Rattle.std.proofs.Common.{◌∙◌, ap, sym, subst}
 use Rattle.std.specs.Map.{values_of}
-use Rattle.kit_oracle.specs.Queues.{taken_out, compare_keys, AreKeyed}
+use Rattle.kit_oracle.specs.Pending.{without_key, compare_keys, AreKeyed}
 use Rattle.std.specs.BTreeMap.{is_at}
 use Rattle.kit_oracle.proofs.Keeping.{remove_keyed, remove_takes}
-use Rattle.kit_oracle.proofs.queue.Queue.remove.Goals as goal
+use Rattle.kit_oracle.proofs.pending.PendingMessages.remove.Goals as goal
 
 pub invariant_of-self : goal.invariant_of-self
 invariant_of-self c = record {
@@ -14,4 +14,4 @@ invariant_of-self c = record {
 pub returns : goal.returns
 returns c =
     ap values_of c.remove.ensures.entries ∙ remove_takes c.args.key c.self.inside.map.entries c.self.invariant.keyed c.self.invariant.ordered
-    ∙ ap (taken_out c.args.key.time c.args.key.sender c.args.key.number) c.self.view_is
+    ∙ ap (without_key c.args.key.time c.args.key.sender c.args.key.number) c.self.view_is

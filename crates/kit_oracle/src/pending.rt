@@ -1,7 +1,7 @@
 //! A federate's undelivered messages, in the order of their keys.
 
 ghost use Rattle.std.specs.Prelude.{◌≡◌, ◌≤◌, [], ◌∷◌, IfSome, IfNone, OnOk, OnErr};
-ghost use Rattle.kit_oracle.specs.Queues.{enter, front, first_time, taken_out};
+ghost use Rattle.kit_oracle.specs.Pending.{queue_with, front_until, earliest_time, without_key};
 
 use kit_base::Message;
 use std::alloc::{AllocError, Global};
@@ -18,11 +18,11 @@ pub(crate) struct Key {
 
 /// Messages in the order of their keys, each under its own.
 #[derive(Drop)]
-pub(crate) struct Queue {
+pub(crate) struct PendingMessages {
     map: BTreeMap<Key, Message>,
 }
 
-impl Model for Queue {
+impl Model for PendingMessages {
     ghost use Rattle.std.specs.Prelude.{List};
     ghost use Rattle.std.specs.BTreeMap.{values};
     ghost use Rattle.kit_base.specs.declared.message.Message.{Message};
@@ -31,22 +31,22 @@ impl Model for Queue {
 
     ghost view = { λ q. values q.map };
 
-    ghost use Rattle.kit_oracle.specs.Queues.{IsQueue};
+    ghost use Rattle.kit_oracle.specs.Pending.{IsByKey};
 
-    ghost invariant = { λ q. IsQueue q.map.entries };
+    ghost invariant = { λ q. IsByKey q.map.entries };
 }
 
-impl Queue {
-    pub(crate) fn new(alloc: Global) -> Queue
+impl PendingMessages {
+    pub(crate) fn new(alloc: Global) -> PendingMessages
         ensures { result ≡ [] }
     {
-        Queue {
+        PendingMessages {
             map: BTreeMap::new(alloc),
         }
     }
 
     pub(crate) fn insert(&mut self, message: Message) -> Result<(), AllocError>
-        ensures ok { OnOk result (self.new ≡ enter message self.old) }
+        ensures ok { OnOk result (self.new ≡ queue_with message self.old) }
         ensures err { OnErr result (self.new ≡ self.old) }
     {
         let key = Key {
@@ -60,14 +60,14 @@ impl Queue {
 
     /// Takes out the message of this key, if it is there.
     pub(crate) fn remove(&mut self, key: Key)
-        ensures { self.new ≡ taken_out key.time key.sender key.number self.old }
+        ensures { self.new ≡ without_key key.time key.sender key.number self.old }
     {
         let _ = self.map.remove(&key);
     }
 
     /// The lesser of a time and that of the first message.
-    pub(crate) fn first_time(&self, time: u64) -> u64
-        ensures { result ≡ first_time time self.now }
+    pub(crate) fn earliest_time(&self, time: u64) -> u64
+        ensures { result ≡ earliest_time time self.now }
     {
         match self.map.first_key_value() {
             None => time,
@@ -79,7 +79,7 @@ impl Queue {
     pub(crate) fn pop_due(&mut self, by: u64) -> Option<Message>
         ensures some { IfSome result (λ m. self.old ≡ m ∷ self.new) }
         ensures due { IfSome result (λ m. m.time ≤ by) }
-        ensures none { IfNone result (front by self.old ≡ []) }
+        ensures none { IfNone result (front_until by self.old ≡ []) }
         ensures unchanged { IfNone result (self.new ≡ self.old) }
     {
         match self.map.first_key_value() {

@@ -9,7 +9,7 @@ use Rattle.kit_base.specs.declared.message.Message.{Message}
 use Rattle.kit_base.specs.Order.{key_cmp}
 use Rattle.kit_rules.specs.Step.{is_event}
 use Rattle.kit_rules.specs.Delivery.{has_bit}
-use Rattle.kit_oracle.specs.declared.queue.Key.{Key}
+use Rattle.kit_oracle.specs.declared.pending.Key.{Key}
 
 abbrev pub compare_keys : Key → Key → Ordering
 compare_keys a b = ordering_then (nat_cmp a.time b.time) (ordering_then (nat_cmp a.sender b.sender) (nat_cmp a.number b.number))
@@ -18,42 +18,42 @@ abbrev pub key_of : Message → Key
 key_of m = record { time = m.time; sender = m.sender; number = m.number }
 
 -- a message enters at its place, and takes the place of one with its key
-abbrev pub enter : Message → List Message → List Message
-enter m [] = m ∷ []
-enter m (x ∷ xs) = match_ordering (key_cmp m x) (m ∷ x ∷ xs) (m ∷ xs) (x ∷ enter m xs)
+abbrev pub queue_with : Message → List Message → List Message
+queue_with m [] = m ∷ []
+queue_with m (x ∷ xs) = match_ordering (key_cmp m x) (m ∷ x ∷ xs) (m ∷ xs) (x ∷ queue_with m xs)
 
 -- those at the front that are timed d or less
-abbrev pub front : ℕ → List Message → List Message
-front d [] = []
-front d (m ∷ ms) = if nat_le m.time d then m ∷ front d ms else []
+abbrev pub front_until : ℕ → List Message → List Message
+front_until d [] = []
+front_until d (m ∷ ms) = if nat_le m.time d then m ∷ front_until d ms else []
 
 -- those behind them
-abbrev pub behind : ℕ → List Message → List Message
-behind d [] = []
-behind d (m ∷ ms) = if nat_le m.time d then behind d ms else m ∷ ms
+abbrev pub rest_after : ℕ → List Message → List Message
+rest_after d [] = []
+rest_after d (m ∷ ms) = if nat_le m.time d then rest_after d ms else m ∷ ms
 
 -- the lesser of a time and that of the first message
-abbrev pub first_time : ℕ → List Message → ℕ
-first_time t [] = t
-first_time t (m ∷ ms) = min t m.time
+abbrev pub earliest_time : ℕ → List Message → ℕ
+earliest_time t [] = t
+earliest_time t (m ∷ ms) = min t m.time
 
 -- whether a message has this key
 abbrev pub has_key : ℕ → ℕ → ℕ → Message → Bool
 has_key time sender number x = time == x.time && (sender == x.sender && number == x.number)
 
 -- those that have not this key
-abbrev pub taken_out : ℕ → ℕ → ℕ → List Message → List Message
-taken_out time sender number q = filter (λ x. not (has_key time sender number x)) q
+abbrev pub without_key : ℕ → ℕ → ℕ → List Message → List Message
+without_key time sender number q = filter (λ x. not (has_key time sender number x)) q
 
 -- federate j's queue after one more message was sent to these members
-abbrev pub posted : ℕ → ℕ → Message → List Message → List Message
-posted mask j m q = if is_event m.kind then (if has_bit mask j then enter m q else q) else taken_out m.time m.sender m.value q
+abbrev pub queue_after_message : ℕ → ℕ → Message → List Message → List Message
+queue_after_message mask j m q = if is_event m.kind then (if has_bit mask j then queue_with m q else q) else without_key m.time m.sender m.value q
 
 -- each message stands under its own key
 abbrev pub AreKeyed : List (Key × Message) → Type 0
 AreKeyed es = AllByRecursion (λ (e : Key × Message). e.0 ≡ key_of e.1) es
 
 -- and the keys ascend
-pub record IsQueue (es : List (Key × Message)) : Type 0 where
+pub record IsByKey (es : List (Key × Message)) : Type 0 where
   pub keyed : AreKeyed es
   pub ordered : IsStrictlySortedBy compare_keys (keys_of es)
