@@ -5,7 +5,7 @@ use Rattle.std.proofs.lemmas.Bool.{cases_Bool, ltb-false}
 use Rattle.std.proofs.lemmas.List.{append-nil, append_assoc}
 use Rattle.std.proofs.lemmas.List.Elements.{All-head, All-tail}
 use Rattle.kit_base.specs.declared.message.Message.{Message}
-use Rattle.kit_laws.specs.Sane as sane
+use Rattle.kit_laws.proofs.Sane as sane
 use Rattle.kit_model.specs.declared.journal.JournalEntry.{JournalEntry}
 use Rattle.kit_model.specs.declared.journal.JournalEntry.TheVariants.{Delivered}
 use Rattle.kit_model.specs.Journals.{IsLawful, now_of}

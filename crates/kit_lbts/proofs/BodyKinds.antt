@@ -29,14 +29,14 @@ use Rattle.kit_lbts.specs.declared.view.Filled.{Filled}
 use Rattle.kit_lbts.specs.declared.view.Orphan.{Orphan}
 use Rattle.kit_lbts.specs.declared.view.Spent.{Spent}
 use Rattle.kit_lbts.specs.declared.view.LbtsView.{LbtsView}
-use Rattle.kit_lbts.specs.Views.{delivered, is_for, is_orphan, is_spent, receipts, received, time_of}
+use Rattle.kit_lbts.specs.Views.{delivered, has_receiver, is_orphan, is_spent, receipts, received, time_of}
 use Rattle.kit_lbts.specs.Promises.{bound_of}
 use Rattle.kit_lbts.specs.Letters.{letter_in}
 use Rattle.kit_lbts.specs.MessageLaws.{BodiesKeep, BodiesTell, HasHead, IsTold}
-use Rattle.kit_lbts.specs.Progress.{message_in, orphan, progressed, spent, spent_buffer, spent_entry, taken_in}
-use Rattle.kit_lbts.specs.Rule.{Seated, lbts_rule}
+use Rattle.kit_lbts.specs.Progress.{message_in, orphan, view_after, spent, spent_buffer, spent_entry, taken_in}
+use Rattle.kit_lbts.specs.Rule.{FederateRule, lbts_rule}
 use Rattle.kit_lbts.specs.Seats.{is_event_of, is_orphaned, names, waits_in}
-use Rattle.kit_lbts.specs.Ways.{received_from}
+use Rattle.kit_lbts.specs.Ways.{letters_received_from}
 use Rattle.kit_lbts.proofs.Arriving as arriving
 use Rattle.kit_lbts.proofs.BodySteps.{Lie, Taken, base, receive}
 use Rattle.kit_lbts.proofs.Copies.{contains_filter, filter_contains, map_contains, one_number}
@@ -63,7 +63,7 @@ module _ (p : P) (i k head : ℕ) (li : i < p.own.federates) (lk : k < p.own.buf
   abbrev message : Message
   message = (letter_in (get_or places i p).client k).message
 
-  abbrev rule : Seated m places p.own.number p
+  abbrev rule : FederateRule m places p.own.number p
   rule = w.client.each p.own.number p w.here
 
   abbrev start : LbtsView
@@ -129,8 +129,8 @@ module _ (p : P) (i k head : ℕ) (li : i < p.own.federates) (lk : k < p.own.buf
     -- whether it is pending: where no Retraction of it came
     pending_by : (b : Bool) → list_any (retracts message) (received p.client) ≡ b → is_pending f me (delivered p.client) (received p.client) message ≡ not b
     pending_by b e =
-        ap (λ (c : Bool). is_event message.kind && is_transported f message && is_for f me message && not (list_any (is_same message) (delivered p.client)) && not c) e
-        ∙ front (is_event message.kind) (is_transported f message) (is_for f me message) (not (list_any (is_same message) (delivered p.client))) (not b) event
+        ap (λ (c : Bool). is_event message.kind && is_transported f message && has_receiver f me message && not (list_any (is_same message) (delivered p.client)) && not c) e
+        ∙ front (is_event message.kind) (is_transported f message) (has_receiver f me message) (not (list_any (is_same message) (delivered p.client))) (not b) event
         (arriving.transported p i k head li lk has_head m places w) (arriving.for_me p i k head li lk has_head m places w) (ap not none_delivered)
       where
         front : (a b c d e : Bool) → a ≡ true → b ≡ true → c ≡ true → d ≡ true → (a && b && c && d && e) ≡ e
@@ -234,16 +234,16 @@ module _ (p : P) (i k head : ℕ) (li : i < p.own.federates) (lk : k < p.own.buf
     abbrev sends : List Message
     sends = (get_or places i p).client.state.sends
 
-    abbrev sent_rule : Seated m places i (get_or places i p)
+    abbrev sent_rule : FederateRule m places i (get_or places i p)
     sent_rule = w.client.each i (get_or places i p) (arriving.at p i k head li lk has_head m places w)
 
     -- what was received of i it sent, to the reader among others
-    came_from : (x : Message) → Contains (received p.client) x → x.sender ≡ i → (is_for f me x ≡ true) × (is_transported f x ≡ true) × Contains sends x
+    came_from : (x : Message) → Contains (received p.client) x → x.sender ≡ i → (has_receiver f me x ≡ true) × (is_transported f x ≡ true) × Contains sends x
     came_from x has of =
         let t = map_contains (λ (g : Filled). g.message) (receipts p.client) x has in
-        let mail : Contains (received_from i p.client) t.0 = filter_contains (λ (g : Filled). g.message.sender == i) (receipts p.client) t.0 (eq-eqb t.0.message.sender i (ap (λ (y : Message). y.sender) t.2 ∙ of)) t.1 in
+        let mail : Contains (letters_received_from i p.client) t.0 = filter_contains (λ (g : Filled). g.message.sender == i) (receipts p.client) t.0 (eq-eqb t.0.message.sender i (ap (λ (y : Message). y.sender) t.2 ∙ of)) t.1 in
         let s = arriving.sent_of p i k head li lk has_head m places w t.0 (arriving.received_posted p i k head li lk has_head m places w t.0 mail) in
-        (subst (λ (y : Message). is_for f me y ≡ true) t.2 s.0, subst (λ (y : Message). is_transported f y ≡ true) t.2 s.1, subst (Contains sends) t.2 s.2)
+        (subst (λ (y : Message). has_receiver f me y ≡ true) t.2 s.0, subst (λ (y : Message). is_transported f y ≡ true) t.2 s.1, subst (Contains sends) t.2 s.2)
 
     own_sent : Contains sends message
     own_sent = arriving.in_sends p i k head li lk has_head m places w
@@ -372,10 +372,10 @@ module _ (p : P) (i k head : ℕ) (li : i < p.own.federates) (lk : k < p.own.buf
       orphans = λ a n. orphans_by (is_some (entry_of i value p.client.queue)) refl a n;
     }
 
-  pub whole : RuleStays lbts_rule m places (with_word m (Part i k 1) (m (Part i k 1))) (slice_set places p.own.number (place_after progressed (ReadPart i k 1 (m (Part i k 1))) p))
+  pub whole : RuleStays lbts_rule m places (with_word m (Part i k 1) (m (Part i k 1))) (slice_set places p.own.number (place_after view_after (ReadPart i k 1 (m (Part i k 1))) p))
   whole = by message.kind refl
     where
-      by : (c : Kind) → message.kind ≡ c → RuleStays lbts_rule m places (with_word m (Part i k 1) (m (Part i k 1))) (slice_set places p.own.number (place_after progressed (ReadPart i k 1 (m (Part i k 1))) p))
+      by : (c : Kind) → message.kind ≡ c → RuleStays lbts_rule m places (with_word m (Part i k 1) (m (Part i k 1))) (slice_set places p.own.number (place_after view_after (ReadPart i k 1 (m (Part i k 1))) p))
       by Event is = ⊎_elim
           (λ (e : list_any (is_orphan i message.number) p.client.orphans ≡ true). receive p i k head li lk has_head m places w _ _ _ (forgotten is e))
           (λ (e : list_any (is_orphan i message.number) p.client.orphans ≡ false). receive p i k head li lk has_head m places w _ _ _ (waits is e))
@@ -393,9 +393,12 @@ bodies_tell p i k head word li lk has_head told =
     let letter : Filled = letter_in (get_or places i p).client k in
     let is : letter.message ≡ message_in i head word = sym (arriving.message_is p i k head li lk has_head m places w) ∙ ap (message_in i head) told.3 in
     subst (IsTold p i) is (record {
+      bound = arriving.at_bound p i k head li lk has_head m places w;
       late = arriving.after_grant p i k head li lk has_head m places w;
       for_it = arriving.for_me p i k head li lk has_head m places w;
       transported = arriving.transported p i k head li lk has_head m places w;
+      number = arriving.number_within p i k head li lk has_head m places w letter.message (arriving.in_sends p i k head li lk has_head m places w);
+      named = arriving.named_within p i k head li lk has_head m places w;
       unheard = arriving.new_number p i k head li lk has_head m places w;
       new = entry_clear p i k head li lk has_head m places w;
       posted = (m, places, get_or places i p, w, arriving.at p i k head li lk has_head m places w, (letter.colour, arriving.posted p i k head li lk has_head m places w));

@@ -41,9 +41,9 @@ use Rattle.kit_lbts.specs.Promises.{added_of, bound_of, ledgers_of, stamp_of}
 use Rattle.kit_lbts.specs.Letters.{Letters, letter_in}
 use Rattle.kit_lbts.specs.LedgerLaws.{stamp_read}
 use Rattle.kit_lbts.specs.MessageLaws.{HasHead}
-use Rattle.kit_lbts.specs.Progress.{head_in, message_in, progressed, taken_in}
-use Rattle.kit_lbts.specs.Rule.{RoundsHold, Seated, lbts_rule}
-use Rattle.kit_lbts.specs.Seats.{Granting, Heard, Holdings, Queue, Sends, is_orphaned, waits_in}
+use Rattle.kit_lbts.specs.Progress.{head_in, message_in, view_after, taken_in}
+use Rattle.kit_lbts.specs.Rule.{RoundsHold, FederateRule, lbts_rule}
+use Rattle.kit_lbts.specs.Seats.{Granting, Receiving, Holdings, Queue, Sends, is_orphaned, waits_in}
 use Rattle.kit_lbts.specs.Ways.{Way, WayBetween, marked}
 use Rattle.kit_lbts.proofs.Arriving as arriving
 use Rattle.kit_lbts.proofs.Changes.{Was, kept, mine, said, still, ways_to}
@@ -73,7 +73,7 @@ module _ (p : P) (i k head : ℕ) (li : i < p.own.federates) (lk : k < p.own.buf
   now = with_word m (Part i k 1) (m (Part i k 1))
 
   abbrev q : P
-  q = place_after progressed (ReadPart i k 1 (m (Part i k 1))) p
+  q = place_after view_after (ReadPart i k 1 (m (Part i k 1))) p
 
   abbrev f : Filled
   f = letter_in (get_or places i p).client k
@@ -81,7 +81,7 @@ module _ (p : P) (i k head : ℕ) (li : i < p.own.federates) (lk : k < p.own.buf
   abbrev message : Message
   message = (letter_in (get_or places i p).client k).message
 
-  abbrev rule : Seated m places p.own.number p
+  abbrev rule : FederateRule m places p.own.number p
   rule = mine p m places w now deed
 
   -- the view without the copy in hand, and with its receipt
@@ -94,7 +94,7 @@ module _ (p : P) (i k head : ℕ) (li : i < p.own.federates) (lk : k < p.own.buf
   colour_is : (head_of (head_in i k p.client.in_hand)).colour ≡ f.colour
   colour_is = ap (λ (h : ℕ). (head_of h).colour) (arriving.head_in_is p i k head li lk has_head m places w) ∙ arriving.colour_is p i k head li lk has_head m places w
 
-  step_is : progressed deed p ≡ taken_in message.kind i k message base
+  step_is : view_after deed p ≡ taken_in message.kind i k message base
   step_is = λ t. taken_in (read_is t).kind i k (read_is t)
       (record p.client { in_hand = filter (λ h. not (is_in_hand i k h)) p.client.in_hand; journal = p.client.journal ++ record { entry = Received (read_is t); colour = colour_is t } ∷ [] })
 
@@ -202,7 +202,7 @@ module _ (p : P) (i k head : ℕ) (li : i < p.own.federates) (lk : k < p.own.buf
       settled = taken.settled;
     }
 
-    heard : Heard then
+    heard : Receiving then
     heard = record {
       orphans = λ a n. taken.orphans a n ∙ ap (is_orphaned a n) (sym received_is);
       came = subst (λ (x : List Message × List Message). All (Contains x.0) x.1) (λ t. (sym received_is t, sym delivered_is t))
@@ -231,8 +231,11 @@ module _ (p : P) (i k head : ℕ) (li : i < p.own.federates) (lk : k < p.own.buf
           waiting = old.waiting;
           late = subst (λ (x : ℕ). All (λ (y : Message). x + added_of p ≤ y.time) p.client.outbox) (sym time_is) old.late;
           transported = old.transported;
+          behind = old.behind;
+          once = old.once;
           each = old.each;
           receivers = old.receivers;
+          coloured = old.coloured;
           few = old.few;
           new = λ e. absurd (nothing_in (old.new e).4 (arriving.there p i k head li lk has_head m places w));
         }
@@ -274,13 +277,13 @@ module _ (p : P) (i k head : ℕ) (li : i < p.own.federates) (lk : k < p.own.buf
         (subst (IsUnreceived (ledgers_of places) i me) (sym stamp) (arriving.unreceived p i k head li lk has_head m places w))
         (receipts_are p i k word)
 
-    pub receive : RuleStays lbts_rule m places now (slice_set places p.own.number (place_after progressed (ReadPart i k 1 (m (Part i k 1))) p))
+    pub receive : RuleStays lbts_rule m places now (slice_set places p.own.number (place_after view_after (ReadPart i k 1 (m (Part i k 1))) p))
     receive = kept p m places w now deed (record { words = λ r. refl; federation = ap (λ (v : LbtsView). v.federation) is; same = ap said is; time = ap time_of is ∙ time_is }) (record {
       letters = subst (λ (v : LbtsView). Letters now me (with v)) (sym is) letters;
       others = λ a r other at. letters_aside m now a r (λ x lx on. on) (λ x y lx on. words a x y) (w.client.each a r at).letters;
       holdings = subst (λ (v : LbtsView). Holdings (with v)) (sym is) holdings;
       queue = subst (λ (v : LbtsView). Queue me (with v)) (sym is) queue;
-      heard = subst Heard (sym is) heard;
+      heard = subst Receiving (sym is) heard;
       granting = subst (λ (v : LbtsView). Granting (with v)) (sym is) granting;
       sends = subst (λ (v : LbtsView). Sends me (with v)) (sym is) sends;
       ways = ways_to places me p q (WayBetween now) way_me (λ a l r s other at ta.

@@ -7,7 +7,7 @@ use Rattle.kit_ground.specs.declared.place.Place.{Place}
 use Rattle.kit_ground.proofs.Lists.{at_inside}
 use Rattle.kit_model.specs.declared.share.Share.{Share}
 use Rattle.kit_rounds.specs.Ledgers.{Ledger}
-use Rattle.kit_rounds.specs.Rounds.{HasContributed, result_of, HasEnded}
+use Rattle.kit_rounds.specs.Rounds.{HasContributed, result_of, EndsRun}
 use Rattle.kit_rounds.specs.Rule.{IsBound}
 use Rattle.kit_rounds.proofs.Opening.{equal_sums_bound}
 use Rattle.kit_lbts.specs.declared.view.LbtsView.{LbtsView}
@@ -42,7 +42,7 @@ nothing_below n ledgers = record { copies = λ i j s lt there un. omega arith; p
 
 -- so does the low of a round whose sums are equal, to which all have contributed
 pub ended_bounds : (places : List (Place LbtsView)) (j k : ℕ) → j < length places → RoundsHold places → ((i : ℕ) → i < length places → HasContributed (ledgers_of places i) k)
-    → HasEnded (length places) (ledgers_of places) k → IsBound (length places) (ledgers_of places) (result_of (length places) (ledgers_of places) k).low
+    → EndsRun (length places) (ledgers_of places) k → IsBound (length places) (ledgers_of places) (result_of (length places) (ledgers_of places) k).low
 ended_bounds places j k j_in rounds all ended =
     let n = length places in
     let ledgers = ledgers_of places in
@@ -50,7 +50,7 @@ ended_bounds places j k j_in rounds all ended =
       | inl less ↦ rounds.1.bound k less ended
       | inr ge ↦
           let same : k ≡ rounds.0 = elim (rounds.1.rounds.counted j j_in) [ inl e ↦ omega (arith, e, all j j_in, ge) | inr e ↦ omega (arith, e, all j j_in, ge) ] in
-          subst (λ d. ((i : ℕ) → i < n → HasContributed (ledgers i) d) → HasEnded n ledgers d → IsBound n ledgers (result_of n ledgers d).low) (sym same)
+          subst (λ d. ((i : ℕ) → i < n → HasContributed (ledgers i) d) → EndsRun n ledgers d → IsBound n ledgers (result_of n ledgers d).low) (sym same)
           (equal_sums_bound n rounds.0 ledgers rounds.1) all ended
     ]
 
@@ -63,6 +63,6 @@ known_bounds_bound places j p at rounds learnt =
       | inl e ↦ subst (IsBound n ledgers) (sym e) (nothing_below n ledgers)
       | inr h ↦
           let known = learnt.results h.round h.within in
-          let ended : HasEnded n ledgers h.round = subst (λ (s : Share). s.out ≡ s.inn) known.0 h.equal in
+          let ended : EndsRun n ledgers h.round = subst (λ (s : Share). s.out ≡ s.inn) known.0 h.equal in
           subst (IsBound n ledgers) (sym (h.low ∙ ap (λ (s : Share). s.low) known.0)) (ended_bounds places j h.round (at_inside places j p at) rounds known.1 ended)
     ]

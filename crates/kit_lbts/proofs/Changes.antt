@@ -1,5 +1,5 @@
 -- A step of one federate: what its place was, and what the rule needs where the step is none of a register.
-use Rattle.std.proofs.Common.{◌≡◌, ◌≢◌, ℕ, zero, suc, ◌+◌, ◌-◌, ◌*◌, ◌%◌, ◌^◌, ◌<◌, ◌≤◌, inl, inr, ◌⊎◌, List, [], length, refl, sym, ap, ◌∙◌, subst, ⊎_elim, length-set, true}
+use Rattle.std.proofs.Common.{◌≡◌, ◌≢◌, ℕ, zero, suc, ◌+◌, ◌-◌, ◌*◌, ◌%◌, ◌^◌, ◌<◌, ◌≤◌, inl, inr, ◌⊎◌, List, [], length, refl, sym, ap, ◌∙◌, subst, ⊎_elim, length-set, true, false}
 use Rattle.std.specs.List.{All}
 use Rattle.std.specs.Prelude.{slice_set, slice_index_or}
 use mathlib.Core.Logic.{dite}
@@ -24,13 +24,13 @@ use Rattle.kit_lbts.specs.declared.view.Scheme.{Scheme}
 use Rattle.kit_lbts.specs.declared.view.LbtsView.{LbtsView}
 use Rattle.kit_lbts.specs.Views.{time_of}
 use Rattle.kit_lbts.specs.Promises.{ledgers_of, unknown}
-use Rattle.kit_lbts.specs.Reduction.{Source, value_at, publishes, sources, source, clock_of}
-use Rattle.kit_lbts.specs.Registers.{IsKnown, IsShown, Registers, Learnt, shares_at, word_at}
+use Rattle.kit_lbts.specs.Reduction.{Source, value_at, publishes, reg_of, sources, source, clock_of}
+use Rattle.kit_lbts.specs.Registers.{IsKnown, ShowsRound, Registers, Learnt, shares_at, word_at}
 use Rattle.kit_lbts.specs.Letters.{Letters}
 use Rattle.kit_lbts.specs.Ways.{WayBetween}
-use Rattle.kit_lbts.specs.Seats.{Holdings, Queue, Heard, Granting, Sends}
-use Rattle.kit_lbts.specs.Progress.{progressed}
-use Rattle.kit_lbts.specs.Rule.{Common, RoundsHold, Seated, lbts_rule}
+use Rattle.kit_lbts.specs.Seats.{Holdings, Queue, Receiving, Granting, Sends}
+use Rattle.kit_lbts.specs.Progress.{view_after}
+use Rattle.kit_lbts.specs.Rule.{Common, RoundsHold, FederateRule, lbts_rule}
 use Rattle.kit_lbts.proofs.RoundSteps.{ledger_after, ledger_before, changed}
 
 abbrev P : Type 0
@@ -92,7 +92,7 @@ module _ (n : ℕ) (ledgers after : ℕ → Ledger) (same : (j : ℕ) → (after
   known_still : (owner stage k : ℕ) (share : Share) → IsKnown n ledgers owner stage k share → IsKnown n after owner stage k share
   known_still owner stage k share h = record { place = h.place; fits = h.fits; is = h.is ∙ ap (λ (f : ℕ → Share). value_at n f owner stage) (sym (shares_same k)); made = λ j lj t. has_still j k (h.made j lj t) }
 
-  shown_still : (owner stage k word : ℕ) → IsShown n ledgers owner stage k word → IsShown n after owner stage k word
+  shown_still : (owner stage k word : ℕ) → ShowsRound n ledgers owner stage k word → ShowsRound n after owner stage k word
   shown_still owner stage zero word h = h
   shown_still owner stage (suc k) word h = (h.0, h.1, known_still owner stage k h.0 h.2)
 
@@ -103,18 +103,20 @@ module _ (n : ℕ) (ledgers after : ℕ → Ledger) (same : (j : ℕ) → (after
       → said q.client ≡ said p.client → time_of q.client ≡ time_of p.client → Registers m n ledgers j p → Registers now n after j q
   registers_still m now words j p q same_said time h =
       let Now : Memory → Said → Type 0 = λ x s. (stage : ℕ) → stage < 6 → publishes s.3 n j stage ≡ true
-      → IsShown n after j stage (length s.0) (word_at x j stage (length s.0)) ⊎ IsShown n after j stage (length s.0 - 2) (word_at x j stage (length s.0)) in
+      → ShowsRound n after j stage (length s.0) (word_at x j stage (length s.0)) ⊎ ShowsRound n after j stage (length s.0 - 2) (word_at x j stage (length s.0)) in
       let Before : Memory → Said → Type 0 = λ x s. (stage : ℕ) → stage < 6 → publishes s.3 n j stage ≡ true
-      → IsShown n after j stage (length s.0 - 1) (word_at x j stage (length s.0 + 1)) in
+      → ShowsRound n after j stage (length s.0 - 1) (word_at x j stage (length s.0 + 1)) in
+      let Unused : Said → Type 0 = λ s. (stage round : ℕ) → stage < 6 → publishes s.3 n j stage ≡ false → word_at now j stage round ≡ 0 in
       let c : ℕ = length p.client.contributions in
-      let move : (owner stage k round : ℕ) → IsShown n ledgers owner stage k (word_at m owner stage round) → IsShown n after owner stage k (word_at now owner stage round) =
-      λ owner stage k round s. subst (IsShown n after owner stage k) (sym (words (record { owner = owner; slot = round % 2 * 6 + stage }))) (shown_still owner stage k (word_at m owner stage round) s) in
+      let move : (owner stage k round : ℕ) → ShowsRound n ledgers owner stage k (word_at m owner stage round) → ShowsRound n after owner stage k (word_at now owner stage round) =
+      λ owner stage k round s. subst (ShowsRound n after owner stage k) (sym (words (record { owner = owner; slot = round % 2 * 6 + stage }))) (shown_still owner stage k (word_at m owner stage round) s) in
       record {
         now = subst (Now now) (sym same_said) (λ stage l t. ⊎_elim
-            (λ (s : IsShown n ledgers j stage c (word_at m j stage c)). inl (move j stage c c s))
-            (λ (s : IsShown n ledgers j stage (c - 2) (word_at m j stage c)). inr (move j stage (c - 2) c s))
+            (λ (s : ShowsRound n ledgers j stage c (word_at m j stage c)). inl (move j stage c c s))
+            (λ (s : ShowsRound n ledgers j stage (c - 2) (word_at m j stage c)). inr (move j stage (c - 2) c s))
             (h.now stage l t));
         before = subst (Before now) (sym same_said) (λ stage l t. move j stage (c - 1) (c + 1) (h.before stage l t));
+        unused = subst Unused (sym same_said) (λ stage round l t. words (reg_of j stage round) ∙ h.unused stage round l t);
         clock = words (clock_of j) ∙ (h.clock ∙ sym time);
         lows = subst (λ (s : Said). All (λ (c : Contribution). c.share.low < 2 ^ 17) s.0) (sym same_said) h.lows;
       }
@@ -142,7 +144,7 @@ module _ (p : P) (m : Memory) (places : List P) (w : World lbts_rule p m places)
   abbrev new : List P
   new = slice_set places p.own.number q
 
-  own : Seated m places p.own.number p
+  own : FederateRule m places p.own.number p
   own = w.client.each p.own.number p w.here
 
   -- what a step leaves that is none of a register
@@ -158,7 +160,7 @@ module _ (p : P) (m : Memory) (places : List P) (w : World lbts_rule p m places)
     pub others : (i : ℕ) (r : P) → i ≢ p.own.number → get_elem? places i ≡ some r → Letters now i r
     pub holdings : Holdings q
     pub queue : Queue p.own.number q
-    pub heard : Heard q.client
+    pub heard : Receiving q.client
     pub granting : Granting q
     pub sends : Sends p.own.number q
     pub ways : (i j : ℕ) (r s : P) → Was places p.own.number p q i r → Was places p.own.number p q j s → WayBetween now i j r s
@@ -200,7 +202,7 @@ module _ (p : P) (m : Memory) (places : List P) (w : World lbts_rule p m places)
     kept_at h = record {
       client = record {
         common = common;
-        each = each_after (Seated now new) places p.own.number q
+        each = each_after (FederateRule now new) places p.own.number q
             (record {
               registers = registers_of p.own.number p q steady.same steady.time own.registers;
               learnt = learnt_of p.own.number p q steady.same own.learnt;
@@ -231,14 +233,14 @@ module _ (p : P) (m : Memory) (places : List P) (w : World lbts_rule p m places)
 
 -- ---- and by a step
 module _ (p : P) (m : Memory) (places : List P) (w : World lbts_rule p m places) (now : Memory) (deed : Deed) where
-  pub mine : Seated m places p.own.number p
+  pub mine : FederateRule m places p.own.number p
   mine = w.client.each p.own.number p w.here
 
   abbrev pub Steady : Type 0
-  Steady = SteadyAt p m places w now (place_after progressed deed p) refl
+  Steady = SteadyAt p m places w now (place_after view_after deed p) refl
 
   abbrev pub Changed : Type 0
-  Changed = ChangedAt p m places w now (place_after progressed deed p) refl
+  Changed = ChangedAt p m places w now (place_after view_after deed p) refl
 
-  pub kept : Steady → Changed → RuleStays lbts_rule m places now (slice_set places p.own.number (place_after progressed deed p))
-  kept steady h = kept_at p m places w now (place_after progressed deed p) refl steady h
+  pub kept : Steady → Changed → RuleStays lbts_rule m places now (slice_set places p.own.number (place_after view_after deed p))
+  kept steady h = kept_at p m places w now (place_after view_after deed p) refl steady h

@@ -1,5 +1,5 @@
 -- An own buffer is charged with the first message of the outbox.
-use Rattle.std.proofs.Common.{◌≡◌, ◌≢◌, ℕ, ◌<◌, Bool, cond, inl, inr, get_or, List, ◌∷◌, ◌++◌, length, map, filter, Option, Some, refl, sym, ap, ◌∙◌, subst, arith, length-set}
+use Rattle.std.proofs.Common.{◌≡◌, ◌≢◌, ℕ, ◌<◌, Bool, true, cond, inl, inr, get_or, List, ◌∷◌, ◌++◌, length, map, filter, Option, Some, None, refl, sym, ap, ◌∙◌, subst, arith, length-set}
 use Rattle.std.specs.List.{count_by, All, Contains}
 use Rattle.std.specs.Prelude.{slice_set}
 use Rattle.std.proofs.lemmas.List.Elements.{All-contains, All-head, Contains-get_or}
@@ -21,17 +21,19 @@ use Rattle.kit_ground.proofs.Memories.{count_else}
 use Rattle.kit_ground.proofs.PlaceFacts.{buffers_wide, content_is}
 use Rattle.kit_queue.specs.declared.entry.Entry.{Entry}
 use Rattle.kit_rules.specs.Parts.{Parts}
-use Rattle.kit_rules.specs.Delivery.{has_bit}
+use Rattle.kit_rules.specs.Delivery.{has_bit, is_transported}
 use Rattle.kit_lbts.specs.declared.view.Filled.{Filled}
 use Rattle.kit_lbts.specs.declared.view.InHand.{InHand}
 use Rattle.kit_lbts.specs.declared.view.LbtsView.{LbtsView}
-use Rattle.kit_lbts.specs.Views.{is_for, is_in_hand, is_spent}
+use Rattle.kit_lbts.specs.Views.{has_receiver, is_in_hand, is_spent}
 use Rattle.kit_lbts.specs.Letters.{IsLetter, IsSending, Letters, letter_in, letter_of}
-use Rattle.kit_lbts.specs.Seats.{Sends, left_of, waits_in}
-use Rattle.kit_lbts.specs.Ways.{Way, WayBetween, copies_on_way, marked, posted_to}
-use Rattle.kit_lbts.specs.Progress.{first_letter, progressed}
+use Rattle.kit_lbts.specs.Seats.{AreChargedOnce, Sends, left_of, waits_in}
+use Rattle.kit_lbts.specs.Ways.{Way, WayBetween, copies_on_way, marked, letters_posted_to}
+use Rattle.kit_lbts.specs.Progress.{first_letter, view_after}
 use Rattle.kit_lbts.specs.Rule.{lbts_rule}
 use Rattle.kit_lbts.specs.MessageLaws.{ChargesKeep, MayCharge}
+use Rattle.kit_lbts.proofs.Charging.{charged_once}
+use Rattle.kit_lbts.proofs.Copies.{filter_contains}
 use Rattle.kit_lbts.proofs.Changes.{Was, kept, mine, still, ways_from}
 use Rattle.kit_lbts.proofs.LetterFacts.{letter_else, letter_from, letter_put, letters_aside, letter_still}
 use Rattle.kit_lbts.proofs.OnWay.{free_off, not_held}
@@ -54,7 +56,7 @@ module _ (p : P) (k mask : ℕ) (first : Message) (rest : List Message) (may : M
   now = with_word m (Count p.own.number k) (becomes (Charged k mask) (m (Count p.own.number k)))
 
   abbrev q : P
-  q = place_after progressed (Charged k mask) p
+  q = place_after view_after (Charged k mask) p
 
   letter : Filled
   letter = letter_of p.client first
@@ -108,12 +110,23 @@ module _ (p : P) (k mask : ℕ) (first : Message) (rest : List Message) (may : M
             (λ other. let s = old.others x (λ e. owed (charged_there x other ∙ e)) in let n = may.none in absurd (cc));
       }
 
+  once_sent : AreChargedOnce p.client.federation p.client.state.sends p.client.outbox (Some k) q.client.filled
+  once_sent =
+      let old = (mine p m places w now deed).sends in
+      let none : AreChargedOnce p.client.federation p.client.state.sends p.client.outbox None p.client.filled = subst (λ (o : Option ℕ). AreChargedOnce p.client.federation p.client.state.sends p.client.outbox o p.client.filled) may.none old.once in
+      let lk : k < length p.client.filled = (let s = (mine p m places w now deed).letters.sized in let l = may.within in omega arith) in
+      let passes = All-head (λ (x : Message). is_transported p.client.federation x ≡ true) first rest (subst (All (λ (x : Message). is_transported p.client.federation x ≡ true)) may.outbox old.transported) in
+      let sent = All-head (Contains p.client.state.sends) first rest (subst (All (Contains p.client.state.sends)) may.outbox old.waiting) in
+      let made = charged_once p.client.federation p.client.state.sends old.numbered p.client.outbox rest first may.outbox p.client.filled k (letter_of p.client first) refl lk
+      (filter_contains (is_transported p.client.federation) p.client.state.sends first passes sent) none in
+      subst (AreChargedOnce p.client.federation p.client.state.sends p.client.outbox (Some k)) (sym filled_is) made
+
   left_is : (i : ℕ) → left_of p.client.sending p.own.stock p.client.federation i p.client.outbox ≡ left_of (Some k) q.own.stock p.client.federation i p.client.outbox
   left_is i =
       let f : Parts = p.client.federation in
-      let owed : has_bit (buffer_of q.own.stock k).to_post i ≡ is_for f i first = ap (λ (x : ℕ). has_bit x i) (charged_here ∙ may.all) in
+      let owed : has_bit (buffer_of q.own.stock k).to_post i ≡ has_receiver f i first = ap (λ (x : ℕ). has_bit x i) (charged_here ∙ may.all) in
       (λ t. left_of (may.none t) p.own.stock f i (may.outbox t))
-      ∙ (ap (λ (b : Bool). cond b (first ∷ filter (is_for f i) rest) (filter (is_for f i) rest)) (sym owed)
+      ∙ (ap (λ (b : Bool). cond b (first ∷ filter (has_receiver f i) rest) (filter (has_receiver f i) rest)) (sym owed)
       ∙ ap (left_of (Some k) q.own.stock f i) (sym may.outbox))
 
   sends : Sends me q
@@ -128,8 +141,11 @@ module _ (p : P) (k mask : ℕ) (first : Message) (rest : List Message) (may : M
         waiting = old.waiting;
         late = old.late;
         transported = old.transported;
-        each = λ i li. old.each i li ∙ ap (λ (l : List Message). map (λ (f : Filled). f.message) (posted_to i p.client) ++ l) (left_is i);
+        behind = old.behind;
+        once = once_sent;
+        each = λ i li. old.each i li ∙ ap (λ (l : List Message). map (λ (f : Filled). f.message) (letters_posted_to i p.client) ++ l) (left_is i);
         receivers = old.receivers;
+        coloured = old.coloured;
         few = old.few;
         new = old.new;
       }
@@ -160,7 +176,7 @@ module _ (p : P) (k mask : ℕ) (first : Message) (rest : List Message) (may : M
   way_me j s tj = way_still p.own.buffers (marked m me j) (marked now me j) me j q.client tj.before.client q.client s.client (λ x lx. refl) refl
       (still (λ (x : P). got x.client) places me p q refl j s tj) (way_before j tj.before tj.at)
 
-  pub charge : RuleStays lbts_rule m places now (slice_set places p.own.number (place_after progressed (Charged k mask) p))
+  pub charge : RuleStays lbts_rule m places now (slice_set places p.own.number (place_after view_after (Charged k mask) p))
   charge = kept p m places w now deed (record { words = λ r. refl; federation = refl; same = refl; time = refl }) (record {
     letters = letters;
     others = λ i r other at.

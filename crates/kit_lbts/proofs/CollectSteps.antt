@@ -30,9 +30,9 @@ use Rattle.kit_lbts.specs.declared.view.LbtsView.{LbtsView}
 use Rattle.kit_lbts.specs.Views.{is_in_hand, is_new, is_spent, time_of}
 use Rattle.kit_lbts.specs.Promises.{ledger_of}
 use Rattle.kit_lbts.specs.Letters.{Letters}
-use Rattle.kit_lbts.specs.Seats.{Granting, Heard, Holdings, Queue, Sends, most_sends, waits_in}
-use Rattle.kit_lbts.specs.Ways.{Way, WayBetween, marked, posted_to}
-use Rattle.kit_lbts.specs.Progress.{buffers_in, collected, in_hand, progressed, ready, started}
+use Rattle.kit_lbts.specs.Seats.{Granting, Receiving, Holdings, Queue, Sends, most_sends, waits_in}
+use Rattle.kit_lbts.specs.Ways.{Way, WayBetween, marked, letters_posted_to}
+use Rattle.kit_lbts.specs.Progress.{buffers_in, view_after_collect, in_hand, view_after, view_when_ready, view_after_start}
 use Rattle.kit_lbts.specs.Rule.{LbtsRule, lbts_rule}
 use Rattle.kit_lbts.specs.MessageLaws.{CollectsKeep}
 use Rattle.kit_lbts.proofs.Changes.{Was, kept, mine, said, still, ways_to}
@@ -70,7 +70,7 @@ module _ (p : P) (i word : ℕ) (li : i < p.own.federates) (old_seat : is_new p.
   now = with_word m (Mail p.own.number i word) 0
 
   abbrev q : P
-  q = place_after progressed (Collected i word (m (Mail p.own.number i word))) p
+  q = place_after view_after (Collected i word (m (Mail p.own.number i word))) p
 
   abbrev new : List InHand
   new = map (in_hand i) (buffers_in p.own.buffers word (m (Mail p.own.number i word)))
@@ -82,7 +82,7 @@ module _ (p : P) (i word : ℕ) (li : i < p.own.federates) (old_seat : is_new p.
   with v = record { own = own_after (Collected i word (m (Mail p.own.number i word))) p.own; client = v }
 
   is : q.client ≡ then
-  is = ap (λ (b : Bool). collected p.own.buffers i word mail (cond b (started p.own.number p.client) p.client)) old_seat
+  is = ap (λ (b : Bool). view_after_collect p.own.buffers i word mail (cond b (view_after_start p.own.number p.client) p.client)) old_seat
 
   there_i : i < length places
   there_i = subst (λ (n : ℕ). i < n) (w.floor.each me p w.here).federates li
@@ -192,7 +192,7 @@ module _ (p : P) (i word : ℕ) (li : i < p.own.federates) (old_seat : is_new p.
         others = old.others;
       }
 
-  heard : Heard then
+  heard : Receiving then
   heard = let old = (mine p m places w now deed).heard in record { orphans = old.orphans; came = old.came; past = old.past }
 
   granting : Granting (with then)
@@ -208,8 +208,11 @@ module _ (p : P) (i word : ℕ) (li : i < p.own.federates) (old_seat : is_new p.
     waiting = old.waiting;
     late = old.late;
     transported = old.transported;
-    each = λ x lx. old.each x lx ∙ ap (λ (l : List Message). map (λ (f : Filled). f.message) (posted_to x p.client) ++ l) (sym (left_same p.client.sending (own_after deed p.own).stock p.own.stock p.client.federation x p.client.outbox (λ y. refl)));
+    behind = old.behind;
+    once = old.once;
+    each = λ x lx. old.each x lx ∙ ap (λ (l : List Message). map (λ (f : Filled). f.message) (letters_posted_to x p.client) ++ l) (sym (left_same p.client.sending (own_after deed p.own).stock p.own.stock p.client.federation x p.client.outbox (λ y. refl)));
     receivers = old.receivers;
+    coloured = old.coloured;
     few = old.few;
     new = λ e. absurd (let t : true ≡ false = sym (ap is_new e) ∙ old_seat in (cc));
   }
@@ -230,13 +233,13 @@ module _ (p : P) (i word : ℕ) (li : i < p.own.federates) (old_seat : is_new p.
       subst (λ (n : ℕ). Way n (marked now a me) a me r.client q.client) (sym b)
       (way_still ta.before.own.buffers (marked now a me) (marked now a me) a me ta.before.client then r.client q.client (λ x lx. refl) s (ap got is) new_way)
 
-  pub collect : RuleStays lbts_rule m places now (slice_set places p.own.number (place_after progressed (Collected i word (m (Mail p.own.number i word))) p))
+  pub collect : RuleStays lbts_rule m places now (slice_set places p.own.number (place_after view_after (Collected i word (m (Mail p.own.number i word))) p))
   collect = kept p m places w now deed (record { words = λ r. refl; federation = ap (λ (v : LbtsView). v.federation) is; same = ap said is; time = ap time_of is }) (record {
     letters = subst (λ (v : LbtsView). Letters now me (with v)) (sym is) letters;
     others = λ a r other at. letters_aside m now a r (λ x lx on. on) (λ x y lx on. refl) (w.client.each a r at).letters;
     holdings = subst (λ (v : LbtsView). Holdings (with v)) (sym is) holdings;
     queue = subst (λ (v : LbtsView). Queue me (with v)) (sym is) queue;
-    heard = subst Heard (sym is) heard;
+    heard = subst Receiving (sym is) heard;
     granting = subst (λ (v : LbtsView). Granting (with v)) (sym is) granting;
     sends = subst (λ (v : LbtsView). Sends me (with v)) (sym is) sends;
     ways = ways_to places me p q (WayBetween now) way_me (λ a l r s other at ta.
@@ -248,18 +251,18 @@ module _ (p : P) (i word : ℕ) (li : i < p.own.federates) (old_seat : is_new p.
   })
 
 -- where the start's rules have not run, they run first
-first_collect : (p : P) (i word : ℕ) → i < p.own.federates → is_new p.client.request ≡ true → length (ready p.own.number p.client).state.sends ≤ most_sends → (m : Memory) (places : List P) (w : World lbts_rule p m places)
-    → RuleStays lbts_rule m places (with_word m (Mail p.own.number i word) 0) (slice_set places p.own.number (place_after progressed (Collected i word (m (Mail p.own.number i word))) p))
+first_collect : (p : P) (i word : ℕ) → i < p.own.federates → is_new p.client.request ≡ true → length (view_when_ready p.own.number p.client).state.sends ≤ most_sends → (m : Memory) (places : List P) (w : World lbts_rule p m places)
+    → RuleStays lbts_rule m places (with_word m (Mail p.own.number i word) 0) (slice_set places p.own.number (place_after view_after (Collected i word (m (Mail p.own.number i word))) p))
 first_collect p i word li fresh few m places w =
     let me : ℕ = p.own.number in
     let deed = Collected i word (m (Mail p.own.number i word)) in
     let now : Memory = with_word m (Mail p.own.number i word) 0 in
-    let p' : P = record p { client = started p.own.number p.client } in
-    let k = collect p' i word li refl m (slice_set places me p') (started_world p fresh (subst (λ (b : Bool). length (cond b (started p.own.number p.client) p.client).state.sends ≤ most_sends) fresh few) m places w) in
-    let view : ready me p.client ≡ started me p.client = ap (λ (b : Bool). cond b (started p.own.number p.client) p.client) fresh in
-    let same : place_after progressed deed p' ≡ place_after progressed deed p = λ t. record { own = own_after deed p.own; client = collected p.own.buffers i word (m (Mail p.own.number i word)) (sym view t) } in
-    let after : slice_set (slice_set places me p') me (place_after progressed deed p') ≡ slice_set places me (place_after progressed deed p) =
-    set-set places me p' (place_after progressed deed p') ∙ ap (slice_set places me) same in
+    let p' : P = record p { client = view_after_start p.own.number p.client } in
+    let k = collect p' i word li refl m (slice_set places me p') (started_world p fresh (subst (λ (b : Bool). length (cond b (view_after_start p.own.number p.client) p.client).state.sends ≤ most_sends) fresh few) m places w) in
+    let view : view_when_ready me p.client ≡ view_after_start me p.client = ap (λ (b : Bool). cond b (view_after_start p.own.number p.client) p.client) fresh in
+    let same : place_after view_after deed p' ≡ place_after view_after deed p = λ t. record { own = own_after deed p.own; client = view_after_collect p.own.buffers i word (m (Mail p.own.number i word)) (sym view t) } in
+    let after : slice_set (slice_set places me p') me (place_after view_after deed p') ≡ slice_set places me (place_after view_after deed p) =
+    set-set places me p' (place_after view_after deed p') ∙ ap (slice_set places me) same in
     record { client = subst (LbtsRule now) after k.client; guests = λ g sees. tt }
 
 pub collects_keep : CollectsKeep lbts_rule

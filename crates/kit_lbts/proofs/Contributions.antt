@@ -16,7 +16,7 @@ use Rattle.kit_lbts.specs.declared.view.Scheme.TheVariants.{Flat, Butterfly}
 use Rattle.kit_lbts.specs.declared.view.LbtsView.{LbtsView}
 use Rattle.kit_lbts.specs.Promises.{ledger_of, low_in, next_contribution}
 use Rattle.kit_lbts.specs.Reduction.{share_stage}
-use Rattle.kit_lbts.specs.Progress.{closed_if_flat, contributed, granted, closed}
+use Rattle.kit_lbts.specs.Progress.{view_after_close_if_flat, view_after_contribution, view_after_grant, view_after_close}
 use Rattle.kit_lbts.specs.LedgerLaws.{ready_place, ContributionsAre}
 use Rattle.kit_lbts.proofs.AsideSteps.{close_leaves}
 
@@ -68,13 +68,13 @@ last_is cs c =
 abbrev with_view : Place LbtsView → LbtsView → Ledger
 with_view p v = ledger_of (record p { client = v })
 
-flat_leaves : (p : Place LbtsView) (scheme : Scheme) (n j : ℕ) (v : LbtsView) → with_view p (closed_if_flat scheme n j v) ≡ with_view p v
+flat_leaves : (p : Place LbtsView) (scheme : Scheme) (n j : ℕ) (v : LbtsView) → with_view p (view_after_close_if_flat scheme n j v) ≡ with_view p v
 flat_leaves p Flat n j v = close_leaves p n j v
 flat_leaves p Butterfly n j v = refl
 
 -- what is published is the own share
 is_share : (p : Place LbtsView) (r : Reg) (word : ℕ) (a b : Bool) → a ≡ false → b ≡ true
-    → cond a (granted p.own.number word p.client) (cond b (contributed (ready_place p)) (cond (r.slot % 6 == 0) (closed p.own.federates p.own.number p.client) p.client)) ≡ contributed (ready_place p)
+    → cond a (view_after_grant p.own.number word p.client) (cond b (view_after_contribution (ready_place p)) (cond (r.slot % 6 == 0) (view_after_close p.own.federates p.own.number p.client) p.client)) ≡ view_after_contribution (ready_place p)
 is_share p r word true b clock own = absurd (false≢true (sym clock))
 is_share p r word false true clock own = refl
 is_share p r word false false clock own = absurd (false≢true own)

@@ -138,6 +138,12 @@ module _ {X : Type 0} where
   map_contains f (x ∷ xs) y (zero, lt, is) = (x, (0, omega arith, refl), is)
   map_contains f (x ∷ xs) y (suc k, lt, is) = let t = map_contains f xs y (k, omega arith, is) in (t.0, Contains-append_right (x ∷ []) xs t.0 t.1, t.2)
 
+-- what stands inside a list does not depend on what stands in place of the rest
+pub get_or_any : {X : Type 0} (xs : List X) (k : ℕ) (c d : X) → k < length xs → get_or xs k c ≡ get_or xs k d
+get_or_any [] k c d lt = absurd (omega arith)
+get_or_any (x ∷ xs) zero c d lt = refl
+get_or_any (x ∷ xs) (suc k) c d lt = get_or_any xs k c d (omega arith)
+
 -- numbered messages are one where their numbers are
 pub one_number : (s : ℕ) (ms : List Message) (d : Message) → ((k : ℕ) → k < length ms → (get_or ms k d).number ≡ s + k)
     → (a b : Message) → Contains ms a → Contains ms b → a.number ≡ b.number → a ≡ b
@@ -146,8 +152,3 @@ one_number s ms d h a b ha hb same =
     let kb : b.number ≡ s + hb.0 = ap (λ (m : Message). m.number) (sym hb.2 ∙ get_or_any ms hb.0 b d hb.1) ∙ h hb.0 hb.1 in
     let e : ha.0 ≡ hb.0 = omega arith in
     sym ha.2 ∙ (get_or_any ms ha.0 a b ha.1 ∙ (ap (λ (k : ℕ). get_or ms k b) e ∙ hb.2))
-  where
-    get_or_any : {X : Type 0} (xs : List X) (k : ℕ) (c d : X) → k < length xs → get_or xs k c ≡ get_or xs k d
-    get_or_any [] k c d lt = absurd (omega arith)
-    get_or_any (x ∷ xs) zero c d lt = refl
-    get_or_any (x ∷ xs) (suc k) c d lt = get_or_any xs k c d (omega arith)

@@ -30,13 +30,13 @@ use Rattle.kit_rules.specs.Parts.{Parts}
 use Rattle.kit_lbts.specs.declared.view.Filled.{Filled}
 use Rattle.kit_lbts.specs.declared.view.Posting.{Posting}
 use Rattle.kit_lbts.specs.declared.view.LbtsView.{LbtsView}
-use Rattle.kit_lbts.specs.Views.{due_of, is_for, is_waiting, receipts, time_of, transported_of}
-use Rattle.kit_lbts.specs.Promises.{added_of, copy_posted, copy_received, ledger_of, ledgers_of, next_contribution, next_run, promise_of, promised}
+use Rattle.kit_lbts.specs.Views.{due_of, has_receiver, is_waiting, receipts, time_of, transported_of}
+use Rattle.kit_lbts.specs.Promises.{added_of, copy_posted, copy_received, ledger_of, ledgers_of, next_contribution, next_run, promise_of, promise_by}
 use Rattle.kit_lbts.specs.Reduction.{back_stage, share_stage, takes_in, value_at}
 use Rattle.kit_lbts.specs.Registers.{IsPlace, shares_at}
 use Rattle.kit_lbts.specs.Seats.{left_of}
-use Rattle.kit_lbts.specs.Ways.{posted_to, received_from}
-use Rattle.kit_lbts.specs.Rule.{Seated, lbts_rule}
+use Rattle.kit_lbts.specs.Ways.{letters_posted_to, letters_received_from}
+use Rattle.kit_lbts.specs.Rule.{FederateRule, lbts_rule}
 use Rattle.kit_lbts.proofs.Contributions.{low_le}
 use Rattle.kit_lbts.proofs.Gathering.{value_of_stage}
 use Rattle.kit_lbts.proofs.Hands.{below_row}
@@ -115,7 +115,7 @@ module _ {X : Type 0} (key : X → ℕ) where
   few_by_keys n j xs few lt below each own = omega (arith, few, count_below n xs below, (spread n j xs each own n (omega arith)).1 lt)
 
 -- no promise goes past the end and 1
-capped : (end add now due : ℕ) (waiting : Bool) → promised end add now due waiting ≤ end + 1
+capped : (end add now due : ℕ) (waiting : Bool) → promise_by end add now due waiting ≤ end + 1
 capped end add now due waiting = by (nat_le end now) (cond waiting now due)
   where
     by : (b : Bool) (t : ℕ) → cond b (end + 1) (min (end + 1) (t + add)) ≤ end + 1
@@ -134,31 +134,31 @@ module _ (at_p : P) (m : Memory) (places : List P) (w : World lbts_rule at_p m p
   ledgers = ledgers_of places
 
   module _ (j : ℕ) (p : P) (at : get_elem? places j ≡ some p) where
-    seat : Seated m places j p
+    seat : FederateRule m places j p
     seat = w.client.each j p at
 
     many : p.own.federates ≡ length places
     many = (w.floor.each j p at).federates
 
-    to_few : (i : ℕ) → i < length places → length (posted_to i p.client) ≤ 16384
+    to_few : (i : ℕ) → i < length places → length (letters_posted_to i p.client) ≤ 16384
     to_few i lt =
         let f : Parts = p.client.federation in
         omega (
           arith,
           ap length (seat.sends.each i (omega (arith, lt, many))),
-          length-append (map (λ (x : Filled). x.message) (posted_to i p.client)) (left_of p.client.sending p.own.stock f i p.client.outbox),
-          length-map (posted_to i p.client) (λ (x : Filled). x.message),
-          length-filter (is_for f i) (transported_of p.client),
-          count_by-le-length (is_for f i) (transported_of p.client),
+          length-append (map (λ (x : Filled). x.message) (letters_posted_to i p.client)) (left_of p.client.sending p.own.stock f i p.client.outbox),
+          length-map (letters_posted_to i p.client) (λ (x : Filled). x.message),
+          length-filter (has_receiver f i) (transported_of p.client),
+          count_by-le-length (has_receiver f i) (transported_of p.client),
           length-filter (is_transported f) p.client.state.sends,
           count_by-le-length (is_transported f) p.client.state.sends,
           seat.sends.few,
         )
 
-    to_itself : length (posted_to j p.client) ≡ 0
+    to_itself : length (letters_posted_to j p.client) ≡ 0
     to_itself =
         let f : Parts = p.client.federation in
-        let nothing_for : All (λ (x : Message). is_for f j x ≡ false) (transported_of p.client) = λ k d lt.
+        let nothing_for : All (λ (x : Message). has_receiver f j x ≡ false) (transported_of p.client) = λ k d lt.
         let x : Message = get_or (transported_of p.client) k d in
         let own : x.sender ≡ j = All-filter (is_transported f) (λ (y : Message). y.sender ≡ j) p.client.state.sends seat.sends.own k d lt in
         let goes : is_transported f x ≡ true = filter_passes (is_transported f) p.client.state.sends k d lt in
@@ -166,12 +166,12 @@ module _ (at_p : P) (m : Memory) (places : List P) (w : World lbts_rule at_p m p
         omega (
           arith,
           ap length (seat.sends.each j (omega (arith, at_inside places j p at, many))),
-          length-append (map (λ (x : Filled). x.message) (posted_to j p.client)) (left_of p.client.sending p.own.stock f j p.client.outbox),
-          length-map (posted_to j p.client) (λ (x : Filled). x.message),
-          none_pass (is_for f j) (transported_of p.client) nothing_for,
+          length-append (map (λ (x : Filled). x.message) (letters_posted_to j p.client)) (left_of p.client.sending p.own.stock f j p.client.outbox),
+          length-map (letters_posted_to j p.client) (λ (x : Filled). x.message),
+          none_pass (has_receiver f j) (transported_of p.client) nothing_for,
         )
 
-    to_count : (i : ℕ) → count_by (λ (x : Posting). x.to == i) p.client.posted ≡ length (posted_to i p.client)
+    to_count : (i : ℕ) → count_by (λ (x : Posting). x.to == i) p.client.posted ≡ length (letters_posted_to i p.client)
     to_count i = sym (length-filter (λ (x : Posting). x.to == i) p.client.posted) ∙ sym (length-map (filter (λ (x : Posting). x.to == i) p.client.posted) (λ (x : Posting). x.filled))
 
     pub posts_few : length p.client.posted ≤ 245760
@@ -180,12 +180,12 @@ module _ (at_p : P) (m : Memory) (places : List P) (w : World lbts_rule at_p m p
         (λ i lt. omega (arith, to_count i, to_few i lt)) (to_count j ∙ to_itself)
 
   module _ (j : ℕ) (p : P) (at : get_elem? places j ≡ some p) where
-    from_count : (i : ℕ) → count_by (λ (x : Filled). x.message.sender == i) (receipts p.client) ≡ length (received_from i p.client)
+    from_count : (i : ℕ) → count_by (λ (x : Filled). x.message.sender == i) (receipts p.client) ≡ length (letters_received_from i p.client)
     from_count i = sym (length-filter (λ (x : Filled). x.message.sender == i) (receipts p.client))
 
-    from_few : (i : ℕ) (q : P) (there : get_elem? places i ≡ some q) → length (received_from i p.client) ≤ length (posted_to j q.client)
+    from_few : (i : ℕ) (q : P) (there : get_elem? places i ≡ some q) → length (letters_received_from i p.client) ≤ length (letters_posted_to j q.client)
     from_few i q there =
-        omega (arith, (w.client.ways i j q p there at).copies (λ _. true), count_all (posted_to j q.client), count_all (received_from i p.client))
+        omega (arith, (w.client.ways i j q p there at).copies (λ _. true), count_all (letters_posted_to j q.client), count_all (letters_received_from i p.client))
 
     pub senders : All (λ (x : Filled). x.message.sender < length places) (receipts p.client)
     senders = all_unmapped (λ (c : Copy). c.peer < n) copy_received (receipts p.client)
@@ -209,7 +209,7 @@ module _ (at_p : P) (m : Memory) (places : List P) (w : World lbts_rule at_p m p
         }
 
     -- and so had what it contributed
-    counts_few : (k : ℕ) → HasContributed (ledgers_of places j) k → ((at_round (ledgers_of places j) k).share.out ≤ 245760) × ((at_round (ledgers_of places j) k).share.inn ≤ 245760)
+    pub counts_few : (k : ℕ) → HasContributed (ledgers_of places j) k → ((at_round (ledgers_of places j) k).share.out ≤ 245760) × ((at_round (ledgers_of places j) k).share.inn ≤ 245760)
     counts_few k has =
         let before = ledger_before places j p p at in
         let c : Contribution = at_round (ledgers j) k in
@@ -236,7 +236,7 @@ module _ (at_p : P) (m : Memory) (places : List P) (w : World lbts_rule at_p m p
           ),
         )
 
-    low_fits : (k : ℕ) → HasContributed (ledgers_of places j) k → (at_round (ledgers_of places j) k).share.low < 2 ^ 17
+    pub low_fits : (k : ℕ) → HasContributed (ledgers_of places j) k → (at_round (ledgers_of places j) k).share.low < 2 ^ 17
     low_fits k has =
         let before = ledger_before places j p p at in
         subst (λ (l : Ledger). HasContributed l k → (at_round l k).share.low < 2 ^ 17) (sym before) (λ lt. (w.client.each j p at).registers.lows k nothing lt) has

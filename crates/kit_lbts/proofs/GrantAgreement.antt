@@ -11,7 +11,7 @@ use Rattle.kit_ground.specs.Rules.{World}
 use Rattle.kit_ground.specs.Steps.{place_after}
 use Rattle.kit_ground.proofs.Lists.{at_inside, at_or}
 use Rattle.kit_ground.proofs.PlaceSteps.{each_after}
-use Rattle.kit_parts.specs.Cuts.{Heard}
+use Rattle.kit_parts.specs.Cuts.{HasAllBelow}
 use Rattle.kit_parts.specs.Fronts.{IsFront, seat_after, seat_with}
 use Rattle.kit_parts.proofs.Agreement.{grants_agree_law}
 use Rattle.kit_parts.proofs.Cutting.{bounds_are_cuts_law}
@@ -27,9 +27,9 @@ use Rattle.kit_lbts.specs.declared.view.LbtsView.{LbtsView}
 use Rattle.kit_lbts.specs.Views.{delivered, due_of, entries_of, is_new, received, time_of}
 use Rattle.kit_lbts.specs.Promises.{bound_of}
 use Rattle.kit_lbts.specs.Reduction.{clock_of}
-use Rattle.kit_lbts.specs.Progress.{due_in, granted, progressed}
+use Rattle.kit_lbts.specs.Progress.{due_in, view_after_grant, view_after}
 use Rattle.kit_lbts.specs.Rule.{lbts_rule}
-use Rattle.kit_lbts.specs.Agreement.{Agrees, AllAgree, agreeing_rule, blocks_from, blocks_in, lines_in, place_at, progress_at, seat_of, transit_at, waiting_at}
+use Rattle.kit_lbts.specs.Agreement.{Agrees, AllAgree, agreeing_rule, blocks_from, blocks_in, lines_of_journal, place_at, progress_at, seat_of, transit_at, waiting_at}
 use Rattle.kit_lbts.specs.AgreementLaws.{AsidesAgree}
 use Rattle.kit_lbts.specs.PublishLaws.{GrantsKeep}
 use Rattle.kit_lbts.proofs.Agreeing.{agrees_same, blocks_granted, due_ordered, whole_granted}
@@ -40,8 +40,8 @@ abbrev P : Type 0
 P = Place LbtsView
 
 -- a world of the rule with agreement is one of the rule
-pub without : (p : P) (m : Memory) (places : List P) → World agreeing_rule p m places → World lbts_rule p m places
-without p m places w = record { floor = w.floor; client = w.client.floor; here = w.here }
+pub without_agreement : (p : P) (m : Memory) (places : List P) → World agreeing_rule p m places → World lbts_rule p m places
+without_agreement p m places w = record { floor = w.floor; client = w.client.floor; here = w.here }
 
 some_place : {a b : P} → some a ≡ some b → a ≡ b
 some_place {a} {b} h = cc
@@ -73,7 +73,7 @@ module _ (p : P) (asked : p.client.request ≢ None) (none : p.client.outbox ≡
   after = after_block p.client.federation p.own.number (due_of p.client) p.client.state (due_in (due_of p.client) p.client.queue)
 
   abbrev then : LbtsView
-  then = granted p.own.number (due_of p.client) p.client
+  then = view_after_grant p.own.number (due_of p.client) p.client
 
   old : Agrees p.own.number p.client
   old = agree me p w.here
@@ -91,11 +91,11 @@ module _ (p : P) (asked : p.client.request ≢ None) (none : p.client.outbox ≡
   blocks_are = ap (blocks_from me []) (step.entries_are p asked none lt below loose m places w) ∙ blocks_granted me d (entries_of v) due old.whole
 
   -- all that is timed below the known bound was received
-  heard : Heard p.client.federation (bound_of p.client) p.own.number (received p.client)
+  heard : HasAllBelow p.client.federation (bound_of p.client) p.own.number (received p.client)
   heard =
       let sound = step.sound p asked none lt below loose m places w in
       let own : place_at p places me ≡ p = some_place (sym (at_or places me p (at_inside places me p w.here)) ∙ w.here) in
-      subst (λ (x : P). Heard f (bound_of v) me (received x.client)) own
+      subst (λ (x : P). HasAllBelow f (bound_of v) me (received x.client)) own
       (all_is_heard_law f sound (bound_of v) (progress_at p places)
       (bounds_are_cuts_law f sound (bound_of v) (progress_at p places) (transit_at m p places) (waiting_at p places) (bounded p m places w agree)) me within)
 
@@ -116,10 +116,10 @@ module _ (p : P) (asked : p.client.request ≢ None) (none : p.client.outbox ≡
   still_asked true a is = true≢false (sym (ap is_new is))
   still_asked false a is = asked is
 
-  pub agrees_granted : Agrees p.own.number (granted p.own.number (due_of p.client) p.client)
+  pub agrees_granted : Agrees p.own.number (view_after_grant p.own.number (due_of p.client) p.client)
   agrees_granted = record {
     new = λ e. absurd (still_asked (nat_lt d f.end) (request_at after.wish d f.end) e);
-    whole = ap (lines_in me) (step.entries_are p asked none lt below loose m places w) ∙ whole_granted me d (entries_of v) due old.whole ∙ ap lines_of (sym blocks_are);
+    whole = ap (lines_of_journal me) (step.entries_are p asked none lt below loose m places w) ∙ whole_granted me d (entries_of v) due old.whole ∙ ap lines_of (sym blocks_are);
     front = subst (IsFront f me) (sym blocks_are) front;
     seat = λ r e.
         let b : Block = block me d due in
@@ -135,12 +135,12 @@ module _ (p : P) (asked : p.client.request ≢ None) (none : p.client.outbox ≡
 -- ---- in the form that a call asks
 pub asides_agree : AsidesAgree
 asides_agree p a deed keeps tells m places w =
-    let k = keeps m places (without p m places w) in
+    let k = keeps m places (without_agreement p m places w) in
     record {
       client = record {
         floor = k.client;
-        agree = each_after (λ i (r : P). Agrees i r.client) places p.own.number (place_after progressed (deed (m a)) p)
-            (agrees_same p.own.number p.client (progressed (deed (m a)) p) (tells (m a)) (w.client.agree p.own.number p w.here))
+        agree = each_after (λ i (r : P). Agrees i r.client) places p.own.number (place_after view_after (deed (m a)) p)
+            (agrees_same p.own.number p.client (view_after (deed (m a)) p) (tells (m a)) (w.client.agree p.own.number p w.here))
             (λ i r other at. w.client.agree i r at);
       };
       guests = λ g sees. tt;
@@ -150,12 +150,12 @@ pub grants_agree : GrantsKeep agreeing_rule
 grants_agree p asked none lt below loose few m places w =
     let r = clock_of p.own.number in
     let deed : Deed = Published r (due_of p.client) in
-    let k = step.grants_keep p asked none lt below loose few m places (without p m places w) in
+    let k = step.grants_keep p asked none lt below loose few m places (without_agreement p m places w) in
     record {
       client = record {
         floor = k.client;
-        agree = each_after (λ i (r : P). Agrees i r.client) places p.own.number (place_after progressed deed p)
-            (agrees_granted p asked none lt below loose m places (without p m places w) w.client.agree)
+        agree = each_after (λ i (r : P). Agrees i r.client) places p.own.number (place_after view_after deed p)
+            (agrees_granted p asked none lt below loose m places (without_agreement p m places w) w.client.agree)
             (λ i r other at. w.client.agree i r at);
       };
       guests = λ g sees. tt;

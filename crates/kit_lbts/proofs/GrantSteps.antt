@@ -19,7 +19,7 @@ use Rattle.kit_ground.specs.Steps.{place_after, own_after}
 use Rattle.kit_ground.proofs.Lists.{at_inside}
 use Rattle.kit_ground.proofs.Memories.{register_else, stored_here}
 use Rattle.kit_laws.proofs.Pendings.{From, due_capped, due_from}
-use Rattle.kit_laws.specs.Sane as sane
+use Rattle.kit_laws.proofs.Sane as sane
 use Rattle.kit_model.specs.declared.journal.JournalEntry.{JournalEntry}
 use Rattle.kit_model.specs.declared.journal.JournalEntry.TheVariants.{Delivered, Granted}
 use Rattle.kit_model.specs.Journals.{IsLawful, last_grant}
@@ -44,20 +44,21 @@ use Rattle.kit_rules.proofs.Growth.{AreNumbered, AreNumbered-append, Grows}
 use Rattle.kit_lbts.specs.declared.view.Filled.{Filled}
 use Rattle.kit_lbts.specs.declared.view.Noted.{Noted}
 use Rattle.kit_lbts.specs.declared.view.LbtsView.{LbtsView}
-use Rattle.kit_lbts.specs.Views.{delivered, delivery_of, due_by, due_of, entries_of, is_empty, is_for, is_new, is_waiting, receipts, received, time_of, transported_of}
+use Rattle.kit_lbts.specs.Views.{delivered, delivery_of, due_by, due_of, entries_of, is_empty, has_receiver, is_new, is_waiting, receipts, received, time_of, transported_of}
 use Rattle.kit_lbts.specs.Promises.{added_of, bound_of, ledgers_of}
 use Rattle.kit_lbts.specs.Reduction.{clock_of, reg_of}
-use Rattle.kit_lbts.specs.Registers.{IsShown, Learnt, Registers, word_at}
+use Rattle.kit_lbts.specs.Registers.{ShowsRound, Learnt, Registers, word_at}
 use Rattle.kit_lbts.specs.Letters.{Letters, letter_in}
-use Rattle.kit_lbts.specs.Seats.{Granting, Heard, Holdings, Queue, Sends, TakeBack, is_orphaned, left_of, most_sends}
-use Rattle.kit_lbts.specs.Ways.{Way, WayBetween, marked, posted_to}
-use Rattle.kit_lbts.specs.Progress.{due_in, granted, noted, progressed}
+use Rattle.kit_lbts.specs.Seats.{AreChargedOnce, Granting, Receiving, Holdings, Queue, Sends, TakeBack, is_orphaned, left_of, most_sends}
+use Rattle.kit_lbts.specs.Ways.{Way, WayBetween, marked, letters_posted_to}
+use Rattle.kit_lbts.specs.Progress.{due_in, view_after_grant, noted, view_after}
 use Rattle.kit_lbts.specs.PublishLaws.{GrantsKeep}
-use Rattle.kit_lbts.specs.Rule.{LbtsRule, Seated, lbts_rule}
-use Rattle.kit_lbts.proofs.Blocks.{asked_after, asked_within, delivered_lawful, deliveries_in, grows_by_block, held_on, numbered_from, wish_by_block}
+use Rattle.kit_lbts.specs.Rule.{LbtsRule, FederateRule, lbts_rule}
+use Rattle.kit_lbts.proofs.Blocks.{asked_after, delivered_lawful, deliveries_in, grows_by_block, held_on, numbered_from, wish_by_block}
+use Rattle.kit_lbts.proofs.Charging.{AreInPlace, more_behind, more_sent}
 use Rattle.kit_lbts.proofs.Changes.{ChangedAt, Was, still, ways_to}
 use Rattle.kit_lbts.proofs.Copies.{one_number}
-use Rattle.kit_lbts.proofs.Dues.{adds}
+use Rattle.kit_lbts.proofs.Dues.{adds, due_between}
 use Rattle.kit_lbts.proofs.LetterFacts.{letters_aside}
 use Rattle.kit_lbts.proofs.Pendings.{messages_sieved}
 use Rattle.kit_lbts.proofs.Publishing.{Lasts, lasts, learnt_on, published_at, shown_on}
@@ -121,10 +122,10 @@ module _ (p : P) (asked : p.client.request ≢ None) (none : p.client.outbox ≡
   after = after_block p.client.federation p.own.number (due_of p.client) p.client.state (due_in (due_of p.client) p.client.queue)
 
   abbrev then : LbtsView
-  then = granted p.own.number (due_of p.client) p.client
+  then = view_after_grant p.own.number (due_of p.client) p.client
 
   abbrev q : P
-  q = record { own = own_after (Published (clock_of p.own.number) (due_of p.client)) p.own; client = granted p.own.number (due_of p.client) p.client }
+  q = record { own = own_after (Published (clock_of p.own.number) (due_of p.client)) p.own; client = view_after_grant p.own.number (due_of p.client) p.client }
 
   abbrev n : ℕ
   n = length places
@@ -135,7 +136,7 @@ module _ (p : P) (asked : p.client.request ≢ None) (none : p.client.outbox ≡
   abbrev ledgers_after : ℕ → Ledger
   ledgers_after = ledgers_of (slice_set places p.own.number q)
 
-  mine : Seated m places p.own.number p
+  mine : FederateRule m places p.own.number p
   mine = w.client.each me p w.here
 
   inside : p.own.number < length places
@@ -154,22 +155,17 @@ module _ (p : P) (asked : p.client.request ≢ None) (none : p.client.outbox ≡
   pub due_is : due_of p.client ≡ due_time request.0 (messages_of p.client.queue)
   due_is = ap (λ (o : Option Request). due_by o (messages_of v.queue)) request.1
 
-  request_is : request.0 ≡ request_at p.client.state.wish (time_of p.client) p.client.federation.end
-  request_is = mine.granting.asked request.0 request.1 lt
+  between : (time_of p.client < due_of p.client) × (due_of p.client ≤ p.client.federation.end)
+  between = due_between me p mine.granting mine.queue asked lt
 
   later : time_of p.client < due_of p.client
-  later =
-      let at_least : time_of v + 1 ≤ sane.time_of request.0 = subst (λ (x : Request). time_of v + 1 ≤ sane.time_of x) (sym request_is) (asked_after v.state.wish (time_of v) f.end mine.granting.wish lt) in
-      let ahead : AllByRecursion (From (time_of v + 1)) (messages_of v.queue) =
-      recursion_from_All (From (time_of v + 1)) (messages_of v.queue) (All-map (From (time_of v + 1)) (λ (e : Entry). e.message) v.queue
-      (All-weaker (λ (e : Entry). time_of v < e.message.time) (λ (e : Entry). time_of v + 1 ≤ e.message.time) (λ e h. omega (arith, h)) v.queue mine.queue.ahead)) in
-      omega (arith, due_is, due_from (time_of v + 1) request.0 (messages_of v.queue) at_least ahead)
+  later = between.0
+
+  in_time : due_of p.client ≤ p.client.federation.end
+  in_time = between.1
 
   capped : due_of p.client ≤ sane.time_of request.0
   capped = omega (arith, due_is, due_capped request.0 (messages_of v.queue))
-
-  in_time : due_of p.client ≤ p.client.federation.end
-  in_time = omega (arith, capped, ap sane.time_of request_is, asked_within v.state.wish (time_of v) f.end)
 
   pub time_is : time_of then ≡ due_of p.client
   time_is = granted_time me d v
@@ -233,11 +229,12 @@ module _ (p : P) (asked : p.client.request ≢ None) (none : p.client.outbox ≡
       λ stage round less. sym (register_else m r (reg_of me stage round) d (λ _ e. omega (arith, e, less))) in
       record {
         now = λ stage less does. ⊎_elim
-            (λ (h : IsShown n ledgers me stage c (word_at m me stage c)). inl (subst (IsShown n ledgers_after me stage c) (same stage c less) (shown_on n ledgers ledgers_after last me stage c (word_at m me stage c) h)))
-            (λ (h : IsShown n ledgers me stage (c - 2) (word_at m me stage c)). inr (subst (IsShown n ledgers_after me stage (c - 2)) (same stage c less) (shown_on n ledgers ledgers_after last me stage (c - 2) (word_at m me stage c) h)))
+            (λ (h : ShowsRound n ledgers me stage c (word_at m me stage c)). inl (subst (ShowsRound n ledgers_after me stage c) (same stage c less) (shown_on n ledgers ledgers_after last me stage c (word_at m me stage c) h)))
+            (λ (h : ShowsRound n ledgers me stage (c - 2) (word_at m me stage c)). inr (subst (ShowsRound n ledgers_after me stage (c - 2)) (same stage c less) (shown_on n ledgers ledgers_after last me stage (c - 2) (word_at m me stage c) h)))
             (mine.registers.now stage less does);
         before = λ stage less does.
-            subst (IsShown n ledgers_after me stage (c - 1)) (same stage (c + 1) less) (shown_on n ledgers ledgers_after last me stage (c - 1) (word_at m me stage (c + 1)) (mine.registers.before stage less does));
+            subst (ShowsRound n ledgers_after me stage (c - 1)) (same stage (c + 1) less) (shown_on n ledgers ledgers_after last me stage (c - 1) (word_at m me stage (c + 1)) (mine.registers.before stage less does));
+        unused = λ stage round less none. sym (same stage round less) ∙ mine.registers.unused stage round less none;
         clock = stored_here m (Register r) d ∙ sym time_is;
         lows = mine.registers.lows;
       }
@@ -286,7 +283,7 @@ module _ (p : P) (asked : p.client.request ≢ None) (none : p.client.outbox ≡
         settled = All-filter keep (λ (e : Entry). e.buffer ≡ None → e.message.time < bound_of v) v.queue old.settled;
       }
 
-  heard : Heard then
+  heard : Receiving then
   heard =
       let old = mine.heard in
       let ds : List Message = due_messages f me d (delivered v) (received v) in
@@ -350,7 +347,7 @@ module _ (p : P) (asked : p.client.request ≢ None) (none : p.client.outbox ≡
             ap (λ (z : Message). z.number) (once a b (among.contains_among a after.sends (Contains-get_or after.sends x c lx)) (among.contains_among b after.sends (Contains-get_or after.sends y e ly)) na nb same);
       }
 
-  sends : length (granted p.own.number (due_of p.client) p.client).state.sends ≤ most_sends → Sends p.own.number q
+  sends : length (view_after_grant p.own.number (due_of p.client) p.client).state.sends ≤ most_sends → Sends p.own.number q
   sends few =
       let old = mine.sends in
       let own_adds = adds p m places w in
@@ -367,8 +364,11 @@ module _ (p : P) (asked : p.client.request ≢ None) (none : p.client.outbox ≡
         waiting = subst (All (Contains after.sends)) (sym outbox_is) (All-filter (is_transported f) (Contains after.sends) gain.made among_all);
         late = subst (λ (x : ℕ × List Message). All (λ (y : Message). x.0 + added_of p ≤ y.time) x.1) (λ t. (sym time_is t, sym outbox_is t)) (All-filter (is_transported f) (λ (x : Message). d + added_of p ≤ x.time) gain.made late);
         transported = subst (All (λ (x : Message). is_transported f x ≡ true)) (sym outbox_is) (filter_passes (is_transported f) gain.made);
+        behind = (length (transported_of v), outbox_is ∙ more_behind f v.state.sends mine.sends.numbered gain.made after.sends gain.sends);
+        once = once;
         each = each;
         receivers = old.receivers;
+        coloured = old.coloured;
         few = few;
         new = λ is. absurd (still_asked (nat_lt d f.end) is);
       }
@@ -377,15 +377,21 @@ module _ (p : P) (asked : p.client.request ≢ None) (none : p.client.outbox ≡
       still_asked true is = true≢false (sym (ap is_new is))
       still_asked false is = asked is
 
-      each : (i : ℕ) → i < p.own.federates → filter (is_for p.client.federation i) (transported_of then) ≡ map (λ (x : Filled). x.message) (posted_to i p.client) ++ left_of p.client.sending p.own.stock p.client.federation i then.outbox
+      once : AreChargedOnce p.client.federation after.sends then.outbox p.client.sending p.client.filled
+      once =
+          let places_of : AreInPlace after.sends = λ k less. numbered_at me 1 after.sends no_message numbered k less ∙ (let e : 1 + k ≡ k + 1 = omega arith in e) in
+          let old : AreChargedOnce f v.state.sends [] None v.filled = subst (λ (x : List Message × Option ℕ). AreChargedOnce f v.state.sends x.0 x.1 v.filled) (λ t. (none t, sending_none t)) mine.sends.once in
+          subst (λ (x : List Message × Option ℕ). AreChargedOnce f after.sends x.0 x.1 v.filled) (λ t. (sym outbox_is t, sym sending_none t)) (more_sent f v.state.sends mine.sends.numbered gain.made after.sends v.filled gain.sends places_of old)
+
+      each : (i : ℕ) → i < p.own.federates → filter (has_receiver p.client.federation i) (transported_of then) ≡ map (λ (x : Filled). x.message) (letters_posted_to i p.client) ++ left_of p.client.sending p.own.stock p.client.federation i then.outbox
       each i li =
-          let gone : filter (is_for f i) (transported_of v) ≡ map (λ (x : Filled). x.message) (posted_to i v) =
-          mine.sends.each i li ∙ ap (λ (l : List Message). map (λ (x : Filled). x.message) (posted_to i v) ++ left_of v.sending p.own.stock f i l) none ∙ append-nil (map (λ (x : Filled). x.message) (posted_to i v)) in
-          ap (λ (l : List Message). filter (is_for f i) (filter (is_transported f) l)) gain.sends
-          ∙ ap (filter (is_for f i)) (filter-append (is_transported f) v.state.sends gain.made)
-          ∙ filter-append (is_for f i) (transported_of v) (filter (is_transported f) gain.made)
-          ∙ ap (λ (l : List Message). l ++ filter (is_for f i) (filter (is_transported f) gain.made)) gone
-          ∙ ap (λ (l : List Message). map (λ (x : Filled). x.message) (posted_to i v) ++ l)
+          let gone : filter (has_receiver f i) (transported_of v) ≡ map (λ (x : Filled). x.message) (letters_posted_to i v) =
+          mine.sends.each i li ∙ ap (λ (l : List Message). map (λ (x : Filled). x.message) (letters_posted_to i v) ++ left_of v.sending p.own.stock f i l) none ∙ append-nil (map (λ (x : Filled). x.message) (letters_posted_to i v)) in
+          ap (λ (l : List Message). filter (has_receiver f i) (filter (is_transported f) l)) gain.sends
+          ∙ ap (filter (has_receiver f i)) (filter-append (is_transported f) v.state.sends gain.made)
+          ∙ filter-append (has_receiver f i) (transported_of v) (filter (is_transported f) gain.made)
+          ∙ ap (λ (l : List Message). l ++ filter (has_receiver f i) (filter (is_transported f) gain.made)) gone
+          ∙ ap (λ (l : List Message). map (λ (x : Filled). x.message) (letters_posted_to i v) ++ l)
           (sym (left_none p.own.stock f i (filter (is_transported f) gain.made)) ∙ (λ t. left_of (sym sending_none t) p.own.stock f i (sym outbox_is t)))
 
   -- ---- the channels and the rounds
@@ -413,7 +419,7 @@ module _ (p : P) (asked : p.client.request ≢ None) (none : p.client.outbox ≡
   idle : is_waiting p.client ≡ false
   idle = ap (λ (x : Option Request × List Message). is_new x.0 || not (is_empty x.1)) (λ t. (request.1 t, none t))
 
-  changed : length (granted p.own.number (due_of p.client) p.client).state.sends ≤ most_sends → ChangedAt p m places w now q refl
+  changed : length (view_after_grant p.own.number (due_of p.client) p.client).state.sends ≤ most_sends → ChangedAt p m places w now q refl
   changed few = record {
     letters = letters;
     others = λ a x other at. letters_aside m now a x (λ y ly on. on) (λ y z ly on. refl) (w.client.each a x at).letters;
@@ -430,7 +436,7 @@ module _ (p : P) (asked : p.client.request ≢ None) (none : p.client.outbox ≡
     rounds = rises_keep_rounds places me p q w.here w.client.rounds (grants_are p idle (omega (arith, later)) no_earlier);
   }
 
-  pub grant : length (granted p.own.number (due_of p.client) p.client).state.sends ≤ most_sends → LbtsRule (with_word m (Register (clock_of p.own.number)) (due_of p.client)) (slice_set places p.own.number (place_after progressed (Published (clock_of p.own.number) (due_of p.client)) p))
+  pub grant : length (view_after_grant p.own.number (due_of p.client) p.client).state.sends ≤ most_sends → LbtsRule (with_word m (Register (clock_of p.own.number)) (due_of p.client)) (slice_set places p.own.number (place_after view_after (Published (clock_of p.own.number) (due_of p.client)) p))
   grant few = published_at p m places w now q refl (omega (arith, inside)) (record {
     words = λ x other. register_else m r x d (λ own. absurd (other own));
     federation = refl;

@@ -21,7 +21,7 @@ use Rattle.kit_lbts.specs.Views.{is_in_hand, is_spent}
 use Rattle.kit_lbts.specs.Letters.{Letters, IsLetter, letter_in}
 use Rattle.kit_lbts.specs.Seats.{Holdings, waits_in}
 use Rattle.kit_lbts.specs.Ways.{Way, WayBetween, marked}
-use Rattle.kit_lbts.specs.Progress.{progressed}
+use Rattle.kit_lbts.specs.Progress.{view_after}
 use Rattle.kit_lbts.specs.Rule.{lbts_rule}
 use Rattle.kit_lbts.specs.MessageLaws.{HeadsKeep}
 use Rattle.kit_lbts.proofs.Changes.{Was, kept, mine, still, ways_to}
@@ -53,7 +53,7 @@ module _ (p : P) (i k : ℕ) (li : i < p.own.federates) (lk : k < p.own.buffers)
   now = with_word m (Part i k 0) (m (Part i k 0))
 
   abbrev q : P
-  q = place_after progressed (ReadPart i k 0 (m (Part i k 0))) p
+  q = place_after view_after (ReadPart i k 0 (m (Part i k 0))) p
 
   words : (a c x : ℕ) → now (Part a c x) ≡ m (Part a c x)
   words a c x = ap (λ (y : Memory). y (Part a c x)) (stored_same m (Part i k 0))
@@ -95,7 +95,7 @@ module _ (p : P) (i k : ℕ) (li : i < p.own.federates) (lk : k < p.own.buffers)
       (way_still ta.before.own.buffers (marked m a me) (marked now a me) a me ta.before.client q.client r.client q.client (λ x lx. refl)
       (still (λ (x : P). sent me x.client) places me p q refl a r ta) refl old)
 
-  pub head_read : RuleStays lbts_rule m places now (slice_set places p.own.number (place_after progressed (ReadPart i k 0 (m (Part i k 0))) p))
+  pub head_read : RuleStays lbts_rule m places now (slice_set places p.own.number (place_after view_after (ReadPart i k 0 (m (Part i k 0))) p))
   head_read = kept p m places w now deed (record { words = λ r. refl; federation = refl; same = refl; time = refl }) (record {
     letters = letters;
     others = λ a r other at. letters_aside m now a r (λ x lx on. on) (λ x y lx on. words a x y) (w.client.each a r at).letters;
@@ -103,7 +103,7 @@ module _ (p : P) (i k : ℕ) (li : i < p.own.federates) (lk : k < p.own.buffers)
     queue = let old = (mine p m places w now deed).queue in record { ordered = old.ordered; apart = old.apart; is = old.is; ahead = old.ahead; settled = old.settled };
     heard = let old = (mine p m places w now deed).heard in record { orphans = old.orphans; came = old.came; past = old.past };
     granting = let old = (mine p m places w now deed).granting in record { lawful = old.lawful; below = old.below; within = old.within; wish = old.wish; asked = old.asked };
-    sends = let old = (mine p m places w now deed).sends in record { own = old.own; numbered = old.numbered; next = old.next; timed = old.timed; takes_back = old.takes_back; waiting = old.waiting; late = old.late; transported = old.transported; each = old.each; receivers = old.receivers; few = old.few; new = λ e. let t = old.new e in (t.0, t.1, t.2, t.3, ap (map (headed i k word)) t.4) };
+    sends = let old = (mine p m places w now deed).sends in record { own = old.own; numbered = old.numbered; next = old.next; timed = old.timed; takes_back = old.takes_back; waiting = old.waiting; late = old.late; transported = old.transported; behind = old.behind; once = old.once; each = old.each; receivers = old.receivers; coloured = old.coloured; few = old.few; new = λ e. let t = old.new e in (t.0, t.1, t.2, t.3, ap (map (headed i k word)) t.4) };
     ways = ways_to places me p q (WayBetween now) way_me (λ a l r s other at ta.
         let b = still (λ (x : P). x.own.buffers) places me p q refl a r ta in
         subst (λ (n : ℕ). Way n (marked now a l) a l r.client s.client) (sym b)

@@ -16,11 +16,11 @@ use Rattle.kit_base.specs.declared.message.Message.{Message}
 use Rattle.kit_lbts.specs.declared.view.Filled.{Filled}
 use Rattle.kit_lbts.specs.declared.view.LbtsView.{LbtsView}
 use Rattle.kit_lbts.specs.Letters.{Letters}
-use Rattle.kit_lbts.specs.Seats.{Holdings, Queue, Heard, Granting, Sends}
-use Rattle.kit_lbts.specs.Ways.{Way, marked, posted_to}
+use Rattle.kit_lbts.specs.Seats.{Holdings, Queue, Receiving, Granting, Sends}
+use Rattle.kit_lbts.specs.Ways.{Way, marked, letters_posted_to}
 use Rattle.kit_lbts.specs.Views.{time_of}
 use Rattle.kit_lbts.specs.Promises.{ledger_of}
-use Rattle.kit_lbts.specs.Progress.{progressed}
+use Rattle.kit_lbts.specs.Progress.{view_after}
 use Rattle.kit_lbts.specs.Rule.{lbts_rule}
 use Rattle.kit_lbts.specs.StepLaws.{StopLooksKeep, StopsKeep}
 use Rattle.kit_lbts.specs.MessageLaws.{WritesKeep, CountLooksKeep}
@@ -36,7 +36,7 @@ P = Place LbtsView
 
 -- what such a step leaves
 pub record Leaves (p : P) (m now : Memory) (deed : Deed) : Type 0 where
-  pub view : progressed deed p ≡ p.client
+  pub view : view_after deed p ≡ p.client
   pub owes : OweTheSame (stock_after deed p.own.stock) p.own.stock
   pub holds : (stock_after deed p.own.stock).holds ≡ p.own.stock.holds
   pub registers : (r : Reg) → now (Register r) ≡ m (Register r)
@@ -84,8 +84,11 @@ module _ (p : P) (m : Memory) (places : List P) (w : World lbts_rule p m places)
         waiting = old.waiting;
         late = old.late;
         transported = old.transported;
-        each = λ i li. old.each i li ∙ ap (λ (l : List Message). map (λ (f : Filled). f.message) (posted_to i p.client) ++ l) (sym (left_same p.client.sending (stock_after deed p.own.stock) p.own.stock p.client.federation i p.client.outbox leaves.owes));
+        behind = old.behind;
+        once = old.once;
+        each = λ i li. old.each i li ∙ ap (λ (l : List Message). map (λ (f : Filled). f.message) (letters_posted_to i p.client) ++ l) (sym (left_same p.client.sending (stock_after deed p.own.stock) p.own.stock p.client.federation i p.client.outbox leaves.owes));
         receivers = old.receivers;
+        coloured = old.coloured;
         few = old.few;
         new = old.new;
       }
@@ -98,22 +101,22 @@ module _ (p : P) (m : Memory) (places : List P) (w : World lbts_rule p m places)
         letters_aside m now i r (λ k lk. more i k) (λ k x lk. leaves.words i k x (subst (λ (b : ℕ). k < b) own.buffers lk)) (w.client.each i r at).letters;
     holdings = subst (λ (v : LbtsView). Holdings (with v)) (sym leaves.view) holdings;
     queue = subst (λ (v : LbtsView). Queue p.own.number (with v)) (sym leaves.view) queue;
-    heard = subst Heard (sym leaves.view) (mine p m places w now deed).heard;
+    heard = subst Receiving (sym leaves.view) (mine p m places w now deed).heard;
     granting = subst (λ (v : LbtsView). Granting (with v)) (sym leaves.view) granting;
     sends = subst (λ (v : LbtsView). Sends p.own.number (with v)) (sym leaves.view) sends;
     ways = λ i j r s ti tj.
-        let q = place_after progressed deed p in
+        let q = place_after view_after deed p in
         let vr = still (λ (x : P). x.client) places p.own.number p q leaves.view i r ti in
         let vs = still (λ (x : P). x.client) places p.own.number p q leaves.view j s tj in
         let b = still (λ (x : P). x.own.buffers) places p.own.number p q refl i r ti in
         subst (λ (n : ℕ). Way n (marked now i j) i j r.client s.client) (sym b)
         (way_still ti.before.own.buffers (marked m i j) (marked now i j) i j ti.before.client tj.before.client r.client s.client
         (λ k lk. ap (λ (x : ℕ). bit_at x (k % 64)) (leaves.mail j i (k / 64))) (ap (sent j) vr) (ap got vs) (w.client.ways i j ti.before tj.before ti.at tj.at));
-    rounds = rises_keep_rounds places p.own.number p (place_after progressed deed p) w.here w.client.rounds
+    rounds = rises_keep_rounds places p.own.number p (place_after view_after deed p) w.here w.client.rounds
         (subst (λ (v : LbtsView). Rises (ledger_of p) (ledger_of (with v))) (sym leaves.view) (record { rises = omega arith; is = refl }));
   }
 
-  pub idle : RuleStays lbts_rule m places now (slice_set places p.own.number (place_after progressed deed p))
+  pub idle : RuleStays lbts_rule m places now (slice_set places p.own.number (place_after view_after deed p))
   idle = kept p m places w now deed (record { words = leaves.registers; federation = ap (λ (v : LbtsView). v.federation) leaves.view; same = ap said leaves.view; time = ap time_of leaves.view }) changed
 
 pub writes_keep : WritesKeep lbts_rule

@@ -11,6 +11,7 @@ pub mod Owing
 pub mod IdleSteps
 pub mod Hands
 pub mod OnWay
+pub mod Charging
 pub mod ChargeSteps
 pub mod Dues
 pub mod SendSteps
@@ -49,3 +50,7 @@ pub mod OtherSteps
 pub mod AgreementEnds
 pub mod WithAgreement
 pub mod NextBlocks
+pub mod Shortage
+pub mod Worlds
+pub mod Lows
+pub mod SeatFacts

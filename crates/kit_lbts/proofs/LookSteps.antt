@@ -21,7 +21,7 @@ use Rattle.kit_ground.proofs.Lists.{at_inside}
 use Rattle.kit_model.specs.declared.share.Share.{Share}
 use Rattle.kit_model.specs.Shares.{share_of}
 use Rattle.kit_queue.specs.declared.entry.Entry.{Entry}
-use Rattle.kit_rounds.specs.Rounds.{HasContributed, result_of, HasEnded}
+use Rattle.kit_rounds.specs.Rounds.{HasContributed, result_of, EndsRun}
 use Rattle.kit_rounds.specs.Rule.{RoundRule}
 use Rattle.kit_rounds.proofs.Closing.{full_rounds_close}
 use Rattle.kit_rounds.proofs.Knowing.{bounds_rise}
@@ -30,10 +30,10 @@ use Rattle.kit_lbts.specs.declared.view.LbtsView.{LbtsView}
 use Rattle.kit_model.specs.Journals.{last_grant}
 use Rattle.kit_lbts.specs.Views.{entries_of}
 use Rattle.kit_lbts.specs.Promises.{ledgers_of, unknown, bound_in, bound_of}
-use Rattle.kit_lbts.specs.Reduction.{Source, source, reg_of, sources, next_source, gathered}
+use Rattle.kit_lbts.specs.Reduction.{Source, source, reg_of, sources, next_source, share_with_taken}
 use Rattle.kit_lbts.specs.Registers.{word_at, IsKnown, Learnt}
-use Rattle.kit_lbts.specs.Progress.{is_under_way, own_share, closed, shows_next, looked}
-use Rattle.kit_lbts.specs.Rule.{Seated, RoundsHold, LbtsRule, lbts_rule}
+use Rattle.kit_lbts.specs.Progress.{is_under_way, own_share, view_after_close, shows_next, view_after_look}
+use Rattle.kit_lbts.specs.Rule.{FederateRule, RoundsHold, LbtsRule, lbts_rule}
 use Rattle.kit_lbts.specs.LookLaws.{Shows}
 use Rattle.kit_lbts.specs.StepLaws.{LooksKeep}
 use Rattle.kit_lbts.proofs.Looking.{looks_teach}
@@ -60,8 +60,8 @@ bound_grows places j results s j_in rounds known is all =
     later : (done : ℕ) → RoundRule (length places) (ledgers_of places) done → length results < done → (h : Ended results (bound_in results)) → s.out ≡ s.inn → bound_in results ≤ s.low
     later done rule lt h ended =
         let before = known h.round h.within in
-        let first : HasEnded (length places) (ledgers_of places) h.round = subst (λ (t : Share). t.out ≡ t.inn) before.0 h.equal in
-        let second : HasEnded (length places) (ledgers_of places) (length results) = subst (λ (t : Share). t.out ≡ t.inn) is ended in
+        let first : EndsRun (length places) (ledgers_of places) h.round = subst (λ (t : Share). t.out ≡ t.inn) before.0 h.equal in
+        let second : EndsRun (length places) (ledgers_of places) (length results) = subst (λ (t : Share). t.out ≡ t.inn) is ended in
         omega (
           arith,
           h.low,
@@ -94,14 +94,14 @@ abbrev learning : Place LbtsView → SeatState → List Share → List Share →
 learning p x taken results = record { own = seat_of p.own x; client = record p.client { taken = taken; results = results } }
 
 module _ (m : Memory) (places : List (Place LbtsView)) (j : ℕ) (p : Place LbtsView) (at : get_elem? places j ≡ some p) (rule : LbtsRule m places) (x : SeatState) where
-  seated : Seated m places j p
+  seated : FederateRule m places j p
   seated = rule.each j p at
 
   pub learns : (taken results : List Share) → bound_in p.client.results ≤ bound_in results → Learnt (length places) (ledgers_of places) j (learning p x taken results) → LbtsRule m (slice_set places j (learning p x taken results))
   learns taken results le learnt =
       replaced m places j p (learning p x taken results) at rule refl (refl, refl, refl)
       (record {
-        registers = let h = seated.registers in record { now = h.now; before = h.before; clock = h.clock; lows = h.lows };
+        registers = let h = seated.registers in record { now = h.now; before = h.before; unused = h.unused; clock = h.clock; lows = h.lows };
         learnt = learnt;
         letters = let h = seated.letters in record { sized = h.sized; counted = h.counted; sending = λ k is. let g = h.sending k is in record { first = g.first; rest = g.rest; within = g.within; outbox = g.outbox; owed = g.owed; filled = g.filled }; others = h.others };
         holdings = let h = seated.holdings in record { each = h.each; in_hand = h.in_hand; queue = h.queue; spent = h.spent };
@@ -120,7 +120,7 @@ module _ (m : Memory) (places : List (Place LbtsView)) (j : ℕ) (p : Place Lbts
           wish = h.wish;
           asked = h.asked;
         };
-        sends = let h = seated.sends in record { own = h.own; numbered = h.numbered; next = h.next; timed = h.timed; takes_back = h.takes_back; waiting = h.waiting; late = h.late; transported = h.transported; each = h.each; receivers = h.receivers; few = h.few; new = h.new };
+        sends = let h = seated.sends in record { own = h.own; numbered = h.numbered; next = h.next; timed = h.timed; takes_back = h.takes_back; waiting = h.waiting; late = h.late; transported = h.transported; behind = h.behind; once = h.once; each = h.each; receivers = h.receivers; coloured = h.coloured; few = h.few; new = h.new };
       })
       (λ i q there h. record { copies = h.copies; heads = h.heads; lies = h.lies })
       (λ i q h. record { copies = h.copies; heads = h.heads; lies = h.lies })
@@ -160,12 +160,12 @@ module _ (m : Memory) (places : List (Place LbtsView)) (j : ℕ) (p : Place Lbts
 
     -- the result
     pub closes : length p.client.taken ≡ length (sources p.client.scheme (length places) j)
-        → LbtsRule m (slice_set places j (learning p x [] (p.client.results ++ gathered p.client.scheme (length places) j (own_share p.client) p.client.taken ∷ [])))
+        → LbtsRule m (slice_set places j (learning p x [] (p.client.results ++ share_with_taken p.client.scheme (length places) j (own_share p.client) p.client.taken ∷ [])))
     closes all =
         let h = seated.learnt in
         let n = length places in
         let k = length p.client.results in
-        let g = gathered p.client.scheme n j (own_share p.client) p.client.taken in
+        let g = share_with_taken p.client.scheme n j (own_share p.client) p.client.taken in
         let told = all_taught_is_result places j p at few rule.rounds h way all in
         learns [] (p.client.results ++ g ∷ []) (bound_grows places j p.client.results g (at_inside places j p at) rule.rounds h.results told.0 told.1) (record {
           under_way = inl (omega (arith, way, length_push p.client.results g));
@@ -253,7 +253,7 @@ module _ (p : Place LbtsView) (r : Reg) (m : Memory) (places : List (Place LbtsV
   -- with it the round is closed or not
   closed_or_not : length v.contributions ≡ length v.results + 1 → LbtsRule m (slice_set places j (place more)) → (b : Bool)
       → (is_under_way more && length more.taken == length (sources v.scheme n j)) ≡ b
-      → LbtsRule m (slice_set places j (place (cond b (record more { results = v.results ++ gathered v.scheme n j (own_share more) more.taken ∷ []; taken = [] }) more)))
+      → LbtsRule m (slice_set places j (place (cond b (record more { results = v.results ++ share_with_taken v.scheme n j (own_share more) more.taken ∷ []; taken = [] }) more)))
   closed_or_not way rule false e = rule
   closed_or_not way rule true e =
       let q = place more in
@@ -262,12 +262,12 @@ module _ (p : Place LbtsView) (r : Reg) (m : Memory) (places : List (Place LbtsV
       let all : length more.taken ≡ length (sources v.scheme n j) = eqb-true _ _ (and_parts (is_under_way more) (length more.taken == length (sources v.scheme n j)) e).1 in
       let many : length now ≡ n = length-set places j q in
       let here = set_here places j q j_in in
-      let f : ℕ → Type 0 = λ k. length more.taken ≡ length (sources v.scheme k j) → LbtsRule m (slice_set now j (learning q then [] (v.results ++ gathered v.scheme k j (own_share more) more.taken ∷ []))) in
+      let f : ℕ → Type 0 = λ k. length more.taken ≡ length (sources v.scheme k j) → LbtsRule m (slice_set now j (learning q then [] (v.results ++ share_with_taken v.scheme k j (own_share more) more.taken ∷ []))) in
       let done = subst f many (closes m now j q here rule then (omega (arith, w.floor.few, many)) way) all in
-      subst (LbtsRule m) (set-set places j q (learning q then [] (v.results ++ gathered v.scheme n j (own_share more) more.taken ∷ []))) done
+      subst (LbtsRule m) (set-set places j q (learning q then [] (v.results ++ share_with_taken v.scheme n j (own_share more) more.taken ∷ []))) done
 
   by_test : (b : Bool) → (is_under_way v && shows_next (next_source v.scheme n j (length v.taken)) (length v.contributions) r word) ≡ b
-      → LbtsRule m (slice_set places j (place (cond b (closed n j more) v)))
+      → LbtsRule m (slice_set places j (place (cond b (view_after_close n j more) v)))
   by_test false e = unmoved m places j p w.here w.client then
   by_test true e =
       let parts = and_parts (is_under_way v) (shows_next (next_source v.scheme n j (length v.taken)) (length v.contributions) r word) e in
@@ -275,17 +275,17 @@ module _ (p : Place LbtsView) (r : Reg) (m : Memory) (places : List (Place LbtsV
       let h = shared way (next_is (next_source v.scheme n j (length v.taken)) (length v.contributions) r word parts.1) in
       closed_or_not way (one_more m places j p w.here w.client then w.floor.few way share h.0 h.1) (is_under_way more && length more.taken == length (sources v.scheme n j)) refl
 
-  pub look_kept : LbtsRule m (slice_set places j (place (looked r word p)))
+  pub look_kept : LbtsRule m (slice_set places j (place (view_after_look r word p)))
   look_kept =
       let many : n ≡ p.own.federates = sym (w.floor.each j p w.here).federates in
       subst
-      (λ k. LbtsRule m (slice_set places j (place (cond (is_under_way v && shows_next (next_source v.scheme k j (length v.taken)) (length v.contributions) r word) (closed k j more) v))))
+      (λ k. LbtsRule m (slice_set places j (place (cond (is_under_way v && shows_next (next_source v.scheme k j (length v.taken)) (length v.contributions) r word) (view_after_close k j more) v))))
       many (by_test (is_under_way v && shows_next (next_source v.scheme n j (length v.taken)) (length v.contributions) r word) refl)
 
 pub looks_keep : LooksKeep lbts_rule
 looks_keep p r m places w = record {
   client =
       let same : m ≡ with_word m (Register r) (m (Register r)) = sym (stored_same m (Register r)) in
-      subst (λ x. LbtsRule x (slice_set places p.own.number (record { own = own_after (Looked r (m (Register r))) p.own; client = looked r (m (Register r)) p }))) same (look_kept p r m places w);
+      subst (λ x. LbtsRule x (slice_set places p.own.number (record { own = own_after (Looked r (m (Register r))) p.own; client = view_after_look r (m (Register r)) p }))) same (look_kept p r m places w);
   guests = λ g sees. sees;
 }

@@ -13,19 +13,19 @@ use Rattle.kit_rounds.specs.Ledgers.{Ledger}
 use Rattle.kit_lbts.specs.declared.view.LbtsView.{LbtsView}
 use Rattle.kit_lbts.specs.Promises.{ledgers_of}
 use Rattle.kit_lbts.specs.Reduction.{publishes, sources, source}
-use Rattle.kit_lbts.specs.Registers.{word_at, IsKnown, IsShown, Registers}
+use Rattle.kit_lbts.specs.Registers.{word_at, IsKnown, ShowsRound, Registers}
 use Rattle.kit_lbts.specs.LookLaws.{Shows, LooksTeach}
 use Rattle.kit_lbts.proofs.Places.{sources_are_published}
 use Rattle.kit_lbts.proofs.RoundSteps.{ledger_before}
 
 -- a word shows its round modulo 8
-pub shown_tag : (n : ℕ) (ledgers : ℕ → Ledger) (owner stage round word : ℕ) → IsShown n ledgers owner stage round word → word / 2 ^ 61 ≡ round % 8
+pub shown_tag : (n : ℕ) (ledgers : ℕ → Ledger) (owner stage round word : ℕ) → ShowsRound n ledgers owner stage round word → word / 2 ^ 61 ≡ round % 8
 shown_tag n ledgers owner stage zero word h = ap (λ w. w / 2 ^ 61) h
 shown_tag n ledgers owner stage (suc k) word h =
     ap (λ w. w / 2 ^ 61) h.1 ∙ ap (λ (x : Share × ℕ). x.1) (shares_come_back_law h.0 (suc k) h.2.fits)
 
 -- so it tells the share of that round
-shown_share : (n : ℕ) (ledgers : ℕ → Ledger) (owner stage k word : ℕ) → IsShown n ledgers owner stage (suc k) word → IsKnown n ledgers owner stage k (share_of word).0
+shown_share : (n : ℕ) (ledgers : ℕ → Ledger) (owner stage k word : ℕ) → ShowsRound n ledgers owner stage (suc k) word → IsKnown n ledgers owner stage k (share_of word).0
 shown_share n ledgers owner stage k word h =
     let is : (share_of word).0 ≡ h.0 = ap (λ w. (share_of w).0) h.1 ∙ ap (λ (x : Share × ℕ). x.0) (shares_come_back_law h.0 (suc k) h.2.fits) in
     subst (IsKnown n ledgers owner stage k) (sym is) h.2
@@ -46,33 +46,33 @@ module _ (m : Memory) (places : List (Place LbtsView)) (owner stage k : ℕ) (q 
   registers = shows.each owner q at
 
   -- the word of the round after k others, where its owner has contributed to k, k + 1 or k + 2 rounds
-  shown_now : word_at m owner stage (suc k) / 2 ^ 61 ≡ suc k % 8 → length q.client.contributions ≡ suc k → IsShown n ledgers owner stage (suc k) (word_at m owner stage (suc k))
+  shown_now : word_at m owner stage (suc k) / 2 ^ 61 ≡ suc k % 8 → length q.client.contributions ≡ suc k → ShowsRound n ledgers owner stage (suc k) (word_at m owner stage (suc k))
   shown_now tag e =
-      elim (subst (λ c. IsShown n ledgers owner stage c (word_at m owner stage c) ⊎ IsShown n ledgers owner stage (c - 2) (word_at m owner stage c)) e (registers.now stage known does)) [
+      elim (subst (λ c. ShowsRound n ledgers owner stage c (word_at m owner stage c) ⊎ ShowsRound n ledgers owner stage (c - 2) (word_at m owner stage c)) e (registers.now stage known does)) [
         | inl h ↦ h
         | inr h ↦ absurd (not_before (suc k) (omega arith) (sym tag ∙ shown_tag n ledgers owner stage (suc k - 2) (word_at m owner stage (suc k)) h))
       ]
 
-  shown_behind : word_at m owner stage (suc k) / 2 ^ 61 ≡ suc k % 8 → length q.client.contributions ≡ k → IsShown n ledgers owner stage (suc k) (word_at m owner stage (suc k))
+  shown_behind : word_at m owner stage (suc k) / 2 ^ 61 ≡ suc k % 8 → length q.client.contributions ≡ k → ShowsRound n ledgers owner stage (suc k) (word_at m owner stage (suc k))
   shown_behind tag e =
       let next : k + 1 ≡ suc k = omega arith in
       let two : suc k - 2 ≡ k - 1 = omega arith in
-      let h : IsShown n ledgers owner stage (k - 1) (word_at m owner stage (suc k)) =
-      subst (λ r. IsShown n ledgers owner stage (k - 1) (word_at m owner stage r)) next
-      (subst (λ c. IsShown n ledgers owner stage (c - 1) (word_at m owner stage (c + 1))) e (registers.before stage known does)) in
+      let h : ShowsRound n ledgers owner stage (k - 1) (word_at m owner stage (suc k)) =
+      subst (λ r. ShowsRound n ledgers owner stage (k - 1) (word_at m owner stage r)) next
+      (subst (λ c. ShowsRound n ledgers owner stage (c - 1) (word_at m owner stage (c + 1))) e (registers.before stage known does)) in
       absurd (not_before (suc k) (omega arith) (sym tag ∙ shown_tag n ledgers owner stage (k - 1) (word_at m owner stage (suc k)) h ∙ ap (λ r. r % 8) (sym two)))
 
-  shown_ahead : length q.client.contributions ≡ suc (suc k) → IsShown n ledgers owner stage (suc k) (word_at m owner stage (suc k))
+  shown_ahead : length q.client.contributions ≡ suc (suc k) → ShowsRound n ledgers owner stage (suc k) (word_at m owner stage (suc k))
   shown_ahead e =
       let last : suc (suc k) - 1 ≡ suc k = omega arith in
       let parity : (suc (suc k) + 1) % 2 ≡ suc k % 2 = omega arith in
-      let h = subst (λ c. IsShown n ledgers owner stage (c - 1) (word_at m owner stage (c + 1))) e (registers.before stage known does) in
+      let h = subst (λ c. ShowsRound n ledgers owner stage (c - 1) (word_at m owner stage (c + 1))) e (registers.before stage known does) in
       let same : word_at m owner stage (suc (suc k) + 1) ≡ word_at m owner stage (suc k) = ap (λ t. m (Register (record { owner = owner; slot = t * 6 + stage }))) parity in
-      subst (λ w. IsShown n ledgers owner stage (suc k) w) same (subst (λ r. IsShown n ledgers owner stage r (word_at m owner stage (suc (suc k) + 1))) last h)
+      subst (λ w. ShowsRound n ledgers owner stage (suc k) w) same (subst (λ r. ShowsRound n ledgers owner stage r (word_at m owner stage (suc (suc k) + 1))) last h)
 
   -- whoever has contributed to k + 1 rounds, the owner of a place has to k, k + 1 or k + 2
   pub shown : (j : ℕ) (p : Place LbtsView) → get_elem? places j ≡ some p → length p.client.contributions ≡ suc k
-      → word_at m owner stage (suc k) / 2 ^ 61 ≡ suc k % 8 → IsShown n ledgers owner stage (suc k) (word_at m owner stage (suc k))
+      → word_at m owner stage (suc k) / 2 ^ 61 ≡ suc k % 8 → ShowsRound n ledgers owner stage (suc k) (word_at m owner stage (suc k))
   shown j p here mine tag =
       let rounds = shows.rounds.1.rounds in
       let own : length (ledgers j).contributions ≡ suc k = ap (λ (l : Ledger). length l.contributions) (ledger_before places j p p here) ∙ mine in

@@ -16,7 +16,7 @@ use Rattle.kit_ground.proofs.Sums.{sum_has}
 use Rattle.kit_model.specs.Journals.{now_of}
 use Rattle.kit_queue.specs.Entries.{messages_of}
 use Rattle.kit_parts.specs.Cuts.{AreBounded, AreSound, AreSplit}
-use Rattle.kit_parts.specs.Fronts.{IsFront, Progress, is_by, is_for as is_sent_to, sends_after, sent_by}
+use Rattle.kit_parts.specs.Fronts.{IsFront, Standing, is_by, is_transported_to as is_sent_to, sends_after, sent_by}
 use Rattle.kit_parts.specs.Promises.{promise, promise_after, promise_at, seat_promise}
 use Rattle.kit_parts.proofs.Counting.{count_by-cons, one_if}
 use Rattle.kit_parts.proofs.InOrder.{copies_are_transported_law}
@@ -31,12 +31,12 @@ use Rattle.kit_lbts.specs.declared.view.Filled.{Filled}
 use Rattle.kit_lbts.specs.declared.view.Noted.{Noted}
 use Rattle.kit_lbts.specs.declared.view.Posting.{Posting}
 use Rattle.kit_lbts.specs.declared.view.LbtsView.{LbtsView}
-use Rattle.kit_lbts.specs.Views.{delivered, due_by, due_of, is_empty, is_for, is_new, is_waiting, receipts, received, time_of}
-use Rattle.kit_lbts.specs.Promises.{added_of, bound_of, copy_posted, copy_received, ledger_of, ledgers_of, promise_of, promised, stamp_of}
+use Rattle.kit_lbts.specs.Views.{delivered, due_by, due_of, is_empty, has_receiver, is_new, is_waiting, receipts, received, time_of}
+use Rattle.kit_lbts.specs.Promises.{added_of, bound_of, copy_posted, copy_received, ledger_of, ledgers_of, promise_of, promise_by, stamp_of}
 use Rattle.kit_lbts.specs.Letters.{letter_in}
 use Rattle.kit_lbts.specs.Seats.{is_owed, left_of}
-use Rattle.kit_lbts.specs.Ways.{copies_on_way, marked, passing_copies, posted_to, received_from}
-use Rattle.kit_lbts.specs.Rule.{Seated, lbts_rule}
+use Rattle.kit_lbts.specs.Ways.{copies_on_way, marked, passing_copies, letters_posted_to, letters_received_from}
+use Rattle.kit_lbts.specs.Rule.{FederateRule, lbts_rule}
 use Rattle.kit_lbts.specs.Agreement.{Agrees, AllAgree, blocks_in, done_of, messages_on_way, place_at, progress_at, progress_of, transit_at, waiting_at}
 use Rattle.kit_lbts.specs.AgreementLaws.{KnownBoundsBound, MomentsAreSound}
 use Rattle.kit_lbts.proofs.Agreeing.{due_ordered}
@@ -83,11 +83,11 @@ all_left : (A : Message → Type 0) (sending : Option ℕ) (s : SeatBuffers) (f 
 all_left A sending s f i [] h = All-nil A
 all_left A sending s f i (m ∷ ms) h = by (is_owed sending s f i m)
   where
-    rest : All A (filter (is_for f i) ms)
-    rest = All-filter (is_for f i) A ms (All-tail A m ms h)
+    rest : All A (filter (has_receiver f i) ms)
+    rest = All-filter (has_receiver f i) A ms (All-tail A m ms h)
 
-    by : (b : Bool) → All A (cond b (m ∷ filter (is_for f i) ms) (filter (is_for f i) ms))
-    by true = All-cons A m (filter (is_for f i) ms) (All-head A m ms h) rest
+    by : (b : Bool) → All A (cond b (m ∷ filter (has_receiver f i) ms) (filter (has_receiver f i) ms))
+    by true = All-cons A m (filter (has_receiver f i) ms) (All-head A m ms h) rest
     by false = rest
 
 -- of those received, the messages from one
@@ -98,7 +98,7 @@ count_from t j rs =
     ∙ sym (count_filter (λ (x : Filled). t x.message) (λ (x : Filled). x.message.sender == j) rs)
 
 -- a promise is said in two ways
-same_promise : (end look now due : ℕ) (waits : Bool) → cond (nat_lt now end) (promise_at end look now due waits) (end + 1) ≡ promised end look now due waits
+same_promise : (end look now due : ℕ) (waits : Bool) → cond (nat_lt now end) (promise_at end look now due waits) (end + 1) ≡ promise_by end look now due waits
 same_promise end look now due waits = elim (cases_lt now end) [
   | inl lt ↦ ap (λ b. cond b (promise_at end look now due waits) (end + 1)) (lt-ltb now end lt) ∙ sym (promised_below end look now due waits lt)
   | inr ge ↦ ap (λ b. cond b (promise_at end look now due waits) (end + 1)) (le-ltb now end ge) ∙ sym (promised_end end look now due waits ge)
@@ -114,7 +114,7 @@ module _ (p : P) (m : Memory) (places : List P) (w : World lbts_rule p m places)
   abbrev ledgers : ℕ → Ledger
   ledgers = ledgers_of places
 
-  abbrev all : ℕ → Progress
+  abbrev all : ℕ → Standing
   all = progress_at p places
 
   -- the seat of a number
@@ -124,7 +124,7 @@ module _ (p : P) (m : Memory) (places : List P) (w : World lbts_rule p m places)
   there : (j : ℕ) → j < length places → get_elem? places j ≡ some (q j)
   there j lt = at_or places j p lt
 
-  seat : (j : ℕ) → j < length places → Seated m places j (q j)
+  seat : (j : ℕ) → j < length places → FederateRule m places j (q j)
   seat j lt = w.client.each j (q j) (there j lt)
 
   federation_is : (j : ℕ) → j < length places → (q j).client.federation ≡ p.client.federation
@@ -177,7 +177,7 @@ module _ (p : P) (m : Memory) (places : List P) (w : World lbts_rule p m places)
           let waits : is_waiting v ≡ true = ap (λ (o : Option Request). is_new o || not (is_empty v.outbox)) e in
           let some_end : 0 < g.end = subst (λ (x : Parts). 0 < x.end) (sym (federation_is j lt)) sound.end.0 in
           ap (λ (o : Option Request). promise_after g j (not (is_empty v.outbox)) (received v) (done_of o (blocks_in j v))) e
-          ∙ sym ((λ t. promised g.end (add_is t) (zero_time t) (due_of v) (waits t)) ∙ promised_below g.end look 0 (due_of v) true some_end)
+          ∙ sym ((λ t. promise_by g.end (add_is t) (zero_time t) (due_of v) (waits t)) ∙ promised_below g.end look 0 (due_of v) true some_end)
       by (Some r) e =
           let v : LbtsView = (q j).client in
           let g : Parts = v.federation in
@@ -189,7 +189,7 @@ module _ (p : P) (m : Memory) (places : List P) (w : World lbts_rule p m places)
           ap (λ (o : Option Request). promise_after g j x (received v) (done_of o (blocks_in j v))) e
           ∙ ap (seat_promise g j x (received v)) ((agrees j lt).seat r e)
           ∙ same_promise g.end look (time_of v) due x
-          ∙ sym (λ t. promised g.end (add_is t) (time_of v) (due_is t) (waits t))
+          ∙ sym (λ t. promise_by g.end (add_is t) (time_of v) (due_is t) (waits t))
 
   -- what it has sent
   sent_is : (j : ℕ) → j < length places → sent_by (place_at p places j).client.federation j (progress_at p places j) ≡ (place_at p places j).client.state.sends
@@ -216,11 +216,11 @@ module _ (p : P) (m : Memory) (places : List P) (w : World lbts_rule p m places)
           let t : Filled → Bool = λ x. test x.message in
           let copies : ℕ → ℕ = copies_on_way (marked m j i) j u.in_hand in
           let inside : i < (q j).own.federates = subst (λ (k : ℕ). i < k) (sym (w.floor.each j (q j) (there j lj)).federates) li in
-          let posted : count_by test (map (λ (x : Filled). x.message) (posted_to i v)) ≡ count_by t (received_from j u) + passing_copies t (letter_in v) copies b =
-          count_map (λ (x : Filled). x.message) test t (posted_to i v) (λ x. refl) ∙ (w.client.ways j i (q j) (q i) (there j lj) (there i li)).copies t in
+          let posted : count_by test (map (λ (x : Filled). x.message) (letters_posted_to i v)) ≡ count_by t (letters_received_from j u) + passing_copies t (letter_in v) copies b =
+          count_map (λ (x : Filled). x.message) test t (letters_posted_to i v) (λ x. refl) ∙ (w.client.ways j i (q j) (q i) (there j lj) (there i li)).copies t in
           ap (λ (l : List Message). count_by test (filter (is_sent_to g i) l)) (sent_is j lj)
           ∙ ap (count_by test) (copies_are_transported_law g i v.state.sends ∙ (seat j lj).sends.each i inside)
-          ∙ count_append test (map (λ (x : Filled). x.message) (posted_to i v)) left
+          ∙ count_append test (map (λ (x : Filled). x.message) (letters_posted_to i v)) left
           ∙ (λ k. posted k + count_by test left)
           ∙ (λ k. sym (count_from test j (receipts u)) k + sym (count_on_way test (letter_in v) copies b) k + count_by test left)
 
@@ -235,7 +235,7 @@ module _ (p : P) (m : Memory) (places : List P) (w : World lbts_rule p m places)
       by (x ∷ xs) e =
           let v : LbtsView = (q j).client in
           let waits : is_waiting v ≡ true = ap (λ (l : List Message). is_new v.request || not (is_empty l)) e ∙ or-true (is_new v.request) in
-          let is : promise_of (q j) ≡ promised v.federation.end (added_of (q j)) (time_of v) (due_of v) true = ap (promised v.federation.end (added_of (q j)) (time_of v) (due_of v)) waits in
+          let is : promise_of (q j) ≡ promise_by v.federation.end (added_of (q j)) (time_of v) (due_of v) true = ap (promise_by v.federation.end (added_of (q j)) (time_of v) (due_of v)) waits in
           All-weaker (λ (y : Message). time_of v + added_of (q j) ≤ y.time) (Late j)
           (λ y h. omega (arith, promise_is j lj, is, late_enough v.federation.end (added_of (q j)) (time_of v) (due_of v) y.time (adds_some j lj) h)) v.outbox (seat j lj).sends.late
 
@@ -265,12 +265,12 @@ module _ (p : P) (m : Memory) (places : List P) (w : World lbts_rule p m places)
       let b : ℕ = (q j).own.buffers in
       let lq : ledgers_of places j ≡ ledger_of (q j) = at_map_or ledger_of places j (q j) blank (there j lj) in
       let lu : ledgers_of places i ≡ ledger_of (q i) = at_map_or ledger_of places i (q i) blank (there i li) in
-      let posts : posts_of (ledgers_of places) j i s ≡ count_by t (posted_to i v) =
+      let posts : posts_of (ledgers_of places) j i s ≡ count_by t (letters_posted_to i v) =
       ap (λ (l : Ledger). count_by (is_copy i s) l.posted) lq
       ∙ (count_map copy_posted (is_copy i s) (λ (x : Posting). x.to == i && same_stamp (stamp_of x.filled) s) v.posted (λ x. refl)
       ∙ (sym (count_filter (λ (x : Posting). same_stamp (stamp_of x.filled) s) (λ (x : Posting). x.to == i) v.posted)
       ∙ sym (count_map (λ (x : Posting). x.filled) t (λ (x : Posting). same_stamp (stamp_of x.filled) s) (filter (λ (x : Posting). x.to == i) v.posted) (λ x. refl)))) in
-      let got : receipts_of (ledgers_of places) j i s ≡ count_by t (received_from j u) =
+      let got : receipts_of (ledgers_of places) j i s ≡ count_by t (letters_received_from j u) =
       ap (λ (l : Ledger). count_by (is_copy j s) l.received) lu
       ∙ (count_map copy_received (is_copy j s) (λ (x : Filled). x.message.sender == j && same_stamp (stamp_of x) s) (receipts u) (λ x. refl)
       ∙ sym (count_filter t (λ (x : Filled). x.message.sender == j) (receipts u))) in

@@ -26,19 +26,19 @@ use Rattle.kit_lbts.specs.Progress.{due_in}
 use Rattle.kit_lbts.specs.Agreement.{Agrees, agreeing_rule, blocks_in}
 use Rattle.kit_lbts.specs.AgreementLaws.{NextBlocksAgree, OutstandingIsNeeded, SpentAtGrants, SpentAtStarts}
 use Rattle.kit_lbts.proofs.Blocks.{grows_by_block}
-use Rattle.kit_lbts.proofs.GrantAgreement.{before, front, without}
+use Rattle.kit_lbts.proofs.GrantAgreement.{before, front, without_agreement}
 
 abbrev P : Type 0
 P = Place LbtsView
 
 pub next_blocks_agree : NextBlocksAgree
-next_blocks_agree p may m places w = front p may.started may.posted may.early may.below may.loose m places (without p m places w) w.client.agree
+next_blocks_agree p may m places w = front p may.started may.posted may.early may.below may.loose m places (without_agreement p m places w) w.client.agree
 
 module _ (p : P) (m : Memory) (places : List P) (w : World agreeing_rule p m places) where
-  sound : IsFederation p.client.federation
+  pub sound : IsFederation p.client.federation
   sound = subst IsFederation (sym (w.client.floor.common.each p.own.number p w.here).0) w.client.floor.common.sound
 
-  within : p.own.number < length p.client.federation.federates
+  pub within : p.own.number < length p.client.federation.federates
   within =
       subst (λ (x : Parts). p.own.number < length x.federates) (sym (w.client.floor.common.each p.own.number p w.here).0)
       (subst (λ (n : ℕ). p.own.number < n) w.client.floor.common.many (at_inside places p.own.number p w.here))
@@ -56,7 +56,7 @@ spent_at_grants p may m places w more =
     let sends = (w.client.floor.each me p w.here).sends in
     let grow : Grows me v.state after = grows_by_block f me d v.state due in
     let next : 16385 < after.next = omega (arith, grow.next, sends.next, ap length grow.sends, length-append v.state.sends grow.made, more) in
-    let seat = from_append f me (seat_at_start f me) done (b ∷ []) ∙ ap (seat_with f me b) (before p may.started may.posted may.early may.below may.loose m places (without p m places w) w.client.agree) in
+    let seat = from_append f me (seat_at_start f me) done (b ∷ []) ∙ ap (seat_with f me b) (before p may.started may.posted may.early may.below may.loose m places (without_agreement p m places w) w.client.agree) in
     spent_agrees_law f (sound p m places w) me (within p m places w) (done ++ b ∷ []) (next_blocks_agree p may m places w) (subst (λ (s : Seat). 16385 < s.state.next) (sym seat) next)
 
 pub outstanding_is_needed : OutstandingIsNeeded

@@ -1,6 +1,7 @@
 -- The rule holds at the opening.
-use Rattle.std.proofs.Common.{◌≡◌, ℕ, ◌+◌, ◌%◌, ◌<◌, Bool, true, false, cond, inl, List, length, get_or, None, arith, refl, sym, ap, ◌∙◌, subst, subst₂}
+use Rattle.std.proofs.Common.{◌≡◌, ℕ, ◌+◌, ◌%◌, ◌<◌, Bool, true, false, cond, inl, List, length, get_or, replicate, Some, None, arith, refl, sym, ap, ◌∙◌, subst, subst₂}
 use Rattle.std.specs.Int.{bit_at}
+use Rattle.std.specs.Prelude.{slice_index_or}
 use Rattle.std.proofs.lemmas.List.{length-replicate}
 use Rattle.std.proofs.lemmas.List.Elements.{All-nil}
 use Rattle.std.proofs.lemmas.Nat.Bits.{bit_at-zero}
@@ -18,17 +19,18 @@ use Rattle.kit_model.proofs.Lawful.{empty_is_lawful}
 use Rattle.std.proofs.lemmas.Option.{none-some}
 use Rattle.std.specs.List.{IsDistinct}
 use Rattle.std.specs.List.Sorted.{IsStrictlySortedBy}
-use Rattle.kit_rounds.specs.Ledgers.{Ledger, zero_memory as no_ledger}
+use Rattle.kit_rounds.specs.Ledgers.{Ledger, blank as no_ledger}
 use Rattle.kit_rounds.proofs.Opening.{new_ledgers_keep}
 use Rattle.kit_lbts.specs.declared.lbts.Opening.{Opening}
+use Rattle.kit_lbts.specs.declared.view.Filled.{Filled}
 use Rattle.kit_lbts.specs.declared.view.LbtsView.{LbtsView}
 use Rattle.kit_lbts.specs.Promises.{ledger_of, ledgers_of}
 use Rattle.kit_lbts.specs.Registers.{Registers, Learnt}
 use Rattle.kit_lbts.specs.Letters.{Letters, letter_in}
 use Rattle.kit_lbts.specs.Ways.{WayBetween, marked}
-use Rattle.kit_lbts.specs.Seats.{Holdings, Queue, Heard, Granting, Sends}
+use Rattle.kit_lbts.specs.Seats.{Holdings, Queue, Receiving, Granting, Sends}
 use Rattle.kit_lbts.specs.Progress.{lbts_first}
-use Rattle.kit_lbts.specs.Rule.{Common, Seated, RoundsHold, LbtsRule}
+use Rattle.kit_lbts.specs.Rule.{Common, FederateRule, RoundsHold, LbtsRule}
 use Rattle.kit_lbts.specs.Openings.{OpeningsHold}
 
 module _ (o : Opening) (sound : IsFederation o.federation.value) where
@@ -63,7 +65,7 @@ module _ (o : Opening) (sound : IsFederation o.federation.value) where
   }
 
   registers : (ledgers : ℕ → Ledger) (m j : ℕ) → Registers zero_memory m ledgers j (seat j)
-  registers ledgers m j = record { now = λ s lt shown. inl refl; before = λ s lt shown. refl; clock = refl; lows = All-nil _ }
+  registers ledgers m j = record { now = λ s lt shown. inl refl; before = λ s lt shown. refl; unused = λ s round lt none. refl; clock = refl; lows = All-nil _ }
 
   learnt : (ledgers : ℕ → Ledger) (m j : ℕ) → Learnt m ledgers j (seat j)
   learnt ledgers m j = record {
@@ -97,7 +99,7 @@ module _ (o : Opening) (sound : IsFederation o.federation.value) where
   unfolding IsStrictlySortedBy IsDistinct
   queue j = record { ordered = tt; apart = tt; is = refl; ahead = All-nil _; settled = All-nil _ }
 
-  heard : (j : ℕ) → Heard (seat j).client
+  heard : (j : ℕ) → Receiving (seat j).client
   heard j = record { orphans = λ i k. refl; came = All-nil _; past = All-nil _ }
 
   granting : (j : ℕ) → j < n → Granting (seat j)
@@ -119,8 +121,13 @@ module _ (o : Opening) (sound : IsFederation o.federation.value) where
     waiting = All-nil _;
     late = All-nil _;
     transported = All-nil _;
+    behind = (0, refl);
+    once =
+        let nothing : (k : ℕ) (x : Filled) → slice_index_or (replicate f.buffers None) k None ≡ Some x → ⊥ = λ k x e. none-some x (sym (same_everywhere f.buffers k None) ∙ e) in
+        record { sent = λ k x e. absurd (nothing k x e); gone = λ k x e. absurd (nothing k x e); apart = λ k l x y ne e. absurd (nothing k x e) };
     each = λ i lt. refl;
     receivers = All-nil _;
+    coloured = All-nil _;
     few = omega arith;
     new = λ none. (refl, refl, refl, refl, refl);
   }
@@ -154,7 +161,7 @@ module _ (o : Opening) (sound : IsFederation o.federation.value) where
     common = common;
     each = λ j p at.
         let lt : j < n = omega (arith, at_inside places j p at, many) in
-        subst (λ q. Seated zero_memory places j q) (is_seat j p at)
+        subst (λ q. FederateRule zero_memory places j q) (is_seat j p at)
         (record {
           registers = registers (ledgers_of places) (length places) j;
           learnt = learnt (ledgers_of places) (length places) j;

@@ -27,13 +27,13 @@ use Rattle.kit_lbts.specs.declared.view.Scheme.{Scheme}
 use Rattle.kit_lbts.specs.declared.view.Scheme.TheVariants.{Flat, Butterfly}
 use Rattle.kit_lbts.specs.Views.{delivered, delivery_of, entries_of, is_in_hand, is_new, is_orphan, is_spent}
 use Rattle.kit_lbts.specs.Promises.{next_contribution}
-use Rattle.kit_lbts.specs.Reduction.{gathered, next_source, share_stage, sources}
+use Rattle.kit_lbts.specs.Reduction.{share_with_taken, next_source, share_stage, sources}
 use Rattle.kit_lbts.specs.Seats.{waits_in}
-use Rattle.kit_lbts.specs.Progress.{closed, closed_if_flat, contributed, granted, head_in, is_under_way, looked, message_in, own_share, progressed, put_down, ready, received_whole, shows_next, spent, started, taken_in}
-use Rattle.kit_lbts.specs.Agreement.{Agrees, blocks_from, blocks_in, lines_in}
+use Rattle.kit_lbts.specs.Progress.{view_after_close, view_after_close_if_flat, view_after_contribution, view_after_grant, head_in, is_under_way, view_after_look, message_in, own_share, view_after, put_down, view_when_ready, received_whole, shows_next, spent, view_after_start, taken_in}
+use Rattle.kit_lbts.specs.Agreement.{Agrees, blocks_from, blocks_in, lines_of_journal}
 use Rattle.kit_lbts.specs.AgreementLaws.{IsNoGrant, OthersAgree, TellsTheSame}
 use Rattle.kit_lbts.proofs.Agreeing.{agrees_same, blocks_on, lines_on, starts_agree}
-use Rattle.kit_lbts.proofs.GrantAgreement.{without}
+use Rattle.kit_lbts.proofs.GrantAgreement.{without_agreement}
 
 abbrev P : Type 0
 P = Place LbtsView
@@ -42,25 +42,25 @@ tells_self : (v : LbtsView) → TellsTheSame v v
 tells_self v = record { federation = refl; state = refl; request = refl; lines = λ j. refl; blocks = λ j. refl; time = refl; delivered = refl }
 
 -- to close a round
-closed_tells : (n j : ℕ) (v u : LbtsView) → TellsTheSame v u → TellsTheSame v (closed n j u)
+closed_tells : (n j : ℕ) (v u : LbtsView) → TellsTheSame v u → TellsTheSame v (view_after_close n j u)
 closed_tells n j v u h = by (is_under_way u && length u.taken == length (sources u.scheme n j))
   where
-    by : (b : Bool) → TellsTheSame v (cond b (record u { results = u.results ++ gathered u.scheme n j (own_share u) u.taken ∷ []; taken = [] }) u)
+    by : (b : Bool) → TellsTheSame v (cond b (record u { results = u.results ++ share_with_taken u.scheme n j (own_share u) u.taken ∷ []; taken = [] }) u)
     by true = record { federation = h.federation; state = h.state; request = h.request; lines = h.lines; blocks = h.blocks; time = h.time; delivered = h.delivered }
     by false = h
 
-looked_tells : (p : P) (r : Reg) (word : ℕ) → TellsTheSame p.client (looked r word p)
+looked_tells : (p : P) (r : Reg) (word : ℕ) → TellsTheSame p.client (view_after_look r word p)
 looked_tells p r word = by (is_under_way p.client && shows_next (next_source p.client.scheme p.own.federates p.own.number (length p.client.taken)) (length p.client.contributions) r word)
   where
-    by : (b : Bool) → TellsTheSame p.client (cond b (closed p.own.federates p.own.number (record p.client { taken = p.client.taken ++ (share_of word).0 ∷ [] })) p.client)
+    by : (b : Bool) → TellsTheSame p.client (cond b (view_after_close p.own.federates p.own.number (record p.client { taken = p.client.taken ++ (share_of word).0 ∷ [] })) p.client)
     by true = closed_tells p.own.federates p.own.number p.client (record p.client { taken = p.client.taken ++ (share_of word).0 ∷ [] })
         (record { federation = refl; state = refl; request = refl; lines = λ j. refl; blocks = λ j. refl; time = refl; delivered = refl })
     by false = tells_self p.client
 
-contributed_tells : (p : P) → TellsTheSame p.client (contributed p)
+contributed_tells : (p : P) → TellsTheSame p.client (view_after_contribution p)
 contributed_tells p = by p.client.scheme
   where
-    by : (s : Scheme) → TellsTheSame p.client (closed_if_flat s p.own.federates p.own.number (record p.client { contributions = p.client.contributions ++ next_contribution p ∷ []; taken = [] }))
+    by : (s : Scheme) → TellsTheSame p.client (view_after_close_if_flat s p.own.federates p.own.number (record p.client { contributions = p.client.contributions ++ next_contribution p ∷ []; taken = [] }))
     by Flat = closed_tells p.own.federates p.own.number p.client (record p.client { contributions = p.client.contributions ++ next_contribution p ∷ []; taken = [] })
         (record { federation = refl; state = refl; request = refl; lines = λ j. refl; blocks = λ j. refl; time = refl; delivered = refl })
     by Butterfly = record { federation = refl; state = refl; request = refl; lines = λ j. refl; blocks = λ j. refl; time = refl; delivered = refl }
@@ -93,7 +93,7 @@ entered_tells m colour hands v =
       federation = refl;
       state = refl;
       request = refl;
-      lines = λ j. ap (lines_in j) more ∙ lines_on j (entries_of v) (Received m ∷ []) ∙ append-nil (lines_in j (entries_of v));
+      lines = λ j. ap (lines_of_journal j) more ∙ lines_on j (entries_of v) (Received m ∷ []) ∙ append-nil (lines_of_journal j (entries_of v));
       blocks = λ j. ap (blocks_from j []) more ∙ blocks_on j [] (entries_of v) (Received m ∷ []) ∙ append-nil (blocks_in j v);
       time = ap now_of more ∙ others_keep_the_time (entries_of v) (Received m) refl;
       delivered = ap (filter_map delivery_of) more ∙ filter_map-append delivery_of (entries_of v) (Received m ∷ []) ∙ append-nil (delivered v);
@@ -109,16 +109,16 @@ received_tells i k body v =
 
 -- what a step tells is what was known, or what is known once the start's rules have run
 abbrev Tells : Deed → P → Type 0
-Tells deed p = TellsTheSame p.client (progressed deed p) ⊎ TellsTheSame (ready p.own.number p.client) (progressed deed p)
+Tells deed p = TellsTheSame p.client (view_after deed p) ⊎ TellsTheSame (view_when_ready p.own.number p.client) (view_after deed p)
 
 published_tells : (p : P) (r : Reg) (word : ℕ) → r.slot ≢ 12 → Tells (Published r word) p
 published_tells p r word other = by (r.slot == 12) (ne_eqb r.slot 12 other) (r.slot % 6 == share_stage) (r.slot % 6 == 0)
   where
     by : (a : Bool) → a ≡ false → (b c : Bool)
-        → TellsTheSame p.client (cond a (granted p.own.number word p.client) (cond b (contributed (record p { client = ready p.own.number p.client })) (cond c (closed p.own.federates p.own.number p.client) p.client)))
-        ⊎ TellsTheSame (ready p.own.number p.client) (cond a (granted p.own.number word p.client) (cond b (contributed (record p { client = ready p.own.number p.client })) (cond c (closed p.own.federates p.own.number p.client) p.client)))
+        → TellsTheSame p.client (cond a (view_after_grant p.own.number word p.client) (cond b (view_after_contribution (record p { client = view_when_ready p.own.number p.client })) (cond c (view_after_close p.own.federates p.own.number p.client) p.client)))
+        ⊎ TellsTheSame (view_when_ready p.own.number p.client) (cond a (view_after_grant p.own.number word p.client) (cond b (view_after_contribution (record p { client = view_when_ready p.own.number p.client })) (cond c (view_after_close p.own.federates p.own.number p.client) p.client)))
     by true e b c = absurd (true≢false e)
-    by false e true c = inr (contributed_tells (record p { client = ready p.own.number p.client }))
+    by false e true c = inr (contributed_tells (record p { client = view_when_ready p.own.number p.client }))
     by false e false true = inl (closed_tells p.own.federates p.own.number p.client p.client (tells_self p.client))
     by false e false false = inl (tells_self p.client)
 
@@ -137,27 +137,27 @@ deed_tells p (ReadPart i k (suc part) word) h = inl (received_tells i k word p.c
 deed_tells p (Released i k) h = inl (put_down_tells i k p.client)
 
 -- once its start's rules have run, a federate agrees
-ready_agrees : (j : ℕ) (v : LbtsView) → (v.request ≡ None → entries_of v ≡ []) → Agrees j v → Agrees j (ready j v)
+ready_agrees : (j : ℕ) (v : LbtsView) → (v.request ≡ None → entries_of v ≡ []) → Agrees j v → Agrees j (view_when_ready j v)
 ready_agrees j v none h = by v.request refl
   where
-    by : (o : Option Request) → v.request ≡ o → Agrees j (ready j v)
-    by None e = subst (λ (b : Bool). Agrees j (cond b (started j v) v)) (sym (ap is_new e)) (starts_agree j v e (none e) h)
-    by (Some r) e = subst (λ (b : Bool). Agrees j (cond b (started j v) v)) (sym (ap is_new e)) h
+    by : (o : Option Request) → v.request ≡ o → Agrees j (view_when_ready j v)
+    by None e = subst (λ (b : Bool). Agrees j (cond b (view_after_start j v) v)) (sym (ap is_new e)) (starts_agree j v e (none e) h)
+    by (Some r) e = subst (λ (b : Bool). Agrees j (cond b (view_after_start j v) v)) (sym (ap is_new e)) h
 
 pub others_agree : OthersAgree
 others_agree p a deed no_grant keeps m places w =
-    let k = keeps m places (without p m places w) in
+    let k = keeps m places (without_agreement p m places w) in
     let me : ℕ = p.own.number in
     let old : Agrees me p.client = w.client.agree me p w.here in
     let none : p.client.request ≡ None → entries_of p.client ≡ [] = λ e. ap (λ (l : List Noted). map (λ (x : Noted). x.entry) l) ((w.client.floor.each me p w.here).sends.new e).2 in
-    let now : Agrees me (progressed (deed (m a)) p) = elim (deed_tells p (deed (m a)) (no_grant (m a))) [
-      | inl t ↦ agrees_same me p.client (progressed (deed (m a)) p) t old
-      | inr t ↦ agrees_same me (ready me p.client) (progressed (deed (m a)) p) t (ready_agrees me p.client none old)
+    let now : Agrees me (view_after (deed (m a)) p) = elim (deed_tells p (deed (m a)) (no_grant (m a))) [
+      | inl t ↦ agrees_same me p.client (view_after (deed (m a)) p) t old
+      | inr t ↦ agrees_same me (view_when_ready me p.client) (view_after (deed (m a)) p) t (ready_agrees me p.client none old)
     ] in
     record {
       client = record {
         floor = k.client;
-        agree = each_after (λ i (r : P). Agrees i r.client) places me (place_after progressed (deed (m a)) p) now (λ i r other at. w.client.agree i r at);
+        agree = each_after (λ i (r : P). Agrees i r.client) places me (place_after view_after (deed (m a)) p) now (λ i r other at. w.client.agree i r at);
       };
       guests = λ g sees. tt;
     }

@@ -8,7 +8,7 @@ use Rattle.kit_ground.specs.declared.place.SeatBuffers.{SeatBuffers}
 use Rattle.kit_ground.specs.Steps.{buffer_of, with_buffer, buffer_after_write, fresh_buffer}
 use Rattle.kit_rules.specs.Parts.{Parts}
 use Rattle.kit_rules.specs.Delivery.{has_bit}
-use Rattle.kit_lbts.specs.Views.{is_for}
+use Rattle.kit_lbts.specs.Views.{has_receiver}
 use Rattle.kit_lbts.specs.Seats.{is_owed, left_of}
 
 -- two stocks whose buffers are to be posted to the same
@@ -21,7 +21,7 @@ owed_same (Some k) s t f j m h = ap (λ (mask : ℕ). has_bit mask j) (h k)
 
 pub left_same : (sending : Option ℕ) (s t : SeatBuffers) (f : Parts) (j : ℕ) (ms : List Message) → OweTheSame s t → left_of sending s f j ms ≡ left_of sending t f j ms
 left_same sending s t f j [] h = refl
-left_same sending s t f j (m ∷ ms) h = ap (λ (b : Bool). cond b (m ∷ filter (is_for f j) ms) (filter (is_for f j) ms)) (owed_same sending s t f j m h)
+left_same sending s t f j (m ∷ ms) h = ap (λ (b : Bool). cond b (m ∷ filter (has_receiver f j) ms) (filter (has_receiver f j) ms)) (owed_same sending s t f j m h)
 
 -- a buffer that is changed
 pub buffer_here : (s : SeatBuffers) (k : ℕ) (c : Buffer) → k < length s.buffers → buffer_of (with_buffer k c s) k ≡ c

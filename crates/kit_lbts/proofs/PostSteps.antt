@@ -3,15 +3,15 @@ use Rattle.std.proofs.Common.{◌≡◌, ℕ, ◌≤◌, Bool, true, false, [], 
 use Rattle.std.proofs.lemmas.List.{map-append}
 use Rattle.kit_ground.specs.declared.place.Deed.TheVariants.{PostedTo}
 use Rattle.kit_lbts.specs.Views.{time_of, due_of, is_waiting}
-use Rattle.kit_lbts.specs.Promises.{added_of, promise_of, promised, ledger_of, copy_posted}
+use Rattle.kit_lbts.specs.Promises.{added_of, promise_of, promise_by, ledger_of, copy_posted}
 use Rattle.kit_lbts.specs.Letters.{letter_in}
 use Rattle.kit_lbts.specs.LedgerLaws.{after, PostsAre}
 use Rattle.kit_lbts.proofs.Promising.{late_enough, rises_idle}
 
 -- a promise of one who waits is no greater than it is afterwards
-rises_from : (end lookahead now due : ℕ) (waiting then : Bool) → waiting ≡ true → now ≤ due → promised end lookahead now due waiting ≤ promised end lookahead now due then
-rises_from end lookahead now due waiting true e le = omega (arith, ap (promised end lookahead now due) e)
-rises_from end lookahead now due waiting false e le = omega (arith, ap (promised end lookahead now due) e, rises_idle end lookahead now due le)
+rises_from : (end lookahead now due : ℕ) (waiting then : Bool) → waiting ≡ true → now ≤ due → promise_by end lookahead now due waiting ≤ promise_by end lookahead now due then
+rises_from end lookahead now due waiting true e le = omega (arith, ap (promise_by end lookahead now due) e)
+rises_from end lookahead now due waiting false e le = omega (arith, ap (promise_by end lookahead now due) e, rises_idle end lookahead now due le)
 
 pub posts_are : PostsAre
 posts_are n p k j f to h =
@@ -22,7 +22,7 @@ posts_are n p k j f to h =
       timed =
           omega (
             arith,
-            ap (promised p.client.federation.end (added_of p) (time_of p.client) (due_of p.client)) h.waits,
+            ap (promise_by p.client.federation.end (added_of p) (time_of p.client) (due_of p.client)) h.waits,
             late_enough p.client.federation.end (added_of p) (time_of p.client) (due_of p.client) f.message.time h.some h.late,
           );
       rises = rises_from p.client.federation.end (added_of p) (time_of p.client) (due_of p.client) (is_waiting p.client) (is_waiting q.client) h.waits h.ahead;

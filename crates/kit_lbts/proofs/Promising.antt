@@ -1,17 +1,17 @@
 -- How the promise of a federate changes.
 use Rattle.std.proofs.Common.{◌≡◌, ℕ, ◌+◌, ◌<◌, ◌≤◌, min, Bool, true, false, cond, inl, inr, arith, ap}
 use Rattle.std.proofs.lemmas.Bool.{cases_lt, le-leb, lt-leb}
-use Rattle.kit_lbts.specs.Promises.{promised}
+use Rattle.kit_lbts.specs.Promises.{promise_by}
 
 -- before the end was granted it is by the logical time or by the due time; after that it is above the end
-pub promised_below : (end lookahead now due : ℕ) (waiting : Bool) → now < end → promised end lookahead now due waiting ≡ min (end + 1) ((cond waiting now due) + lookahead)
+pub promised_below : (end lookahead now due : ℕ) (waiting : Bool) → now < end → promise_by end lookahead now due waiting ≡ min (end + 1) ((cond waiting now due) + lookahead)
 promised_below end lookahead now due waiting lt = ap (λ b. cond b (end + 1) (min (end + 1) ((cond waiting now due) + lookahead))) (lt-leb end now lt)
 
-pub promised_end : (end lookahead now due : ℕ) (waiting : Bool) → end ≤ now → promised end lookahead now due waiting ≡ end + 1
+pub promised_end : (end lookahead now due : ℕ) (waiting : Bool) → end ≤ now → promise_by end lookahead now due waiting ≡ end + 1
 promised_end end lookahead now due waiting le = ap (λ b. cond b (end + 1) (min (end + 1) ((cond waiting now due) + lookahead))) (le-leb end now le)
 
 -- while it waits, no message that is late enough is timed below it
-pub late_enough : (end lookahead now due time : ℕ) → 1 ≤ lookahead → now + lookahead ≤ time → promised end lookahead now due true ≤ time
+pub late_enough : (end lookahead now due time : ℕ) → 1 ≤ lookahead → now + lookahead ≤ time → promise_by end lookahead now due true ≤ time
 late_enough end lookahead now due time some late =
     elim (cases_lt now end) [
       | inl lt ↦ omega (arith, promised_below end lookahead now due true lt)
@@ -19,7 +19,7 @@ late_enough end lookahead now due time some late =
     ]
 
 -- it rises where nothing is left to be posted
-pub rises_idle : (end lookahead now due : ℕ) → now ≤ due → promised end lookahead now due true ≤ promised end lookahead now due false
+pub rises_idle : (end lookahead now due : ℕ) → now ≤ due → promise_by end lookahead now due true ≤ promise_by end lookahead now due false
 rises_idle end lookahead now due le =
     elim (cases_lt now end) [
       | inl lt ↦ omega (arith, promised_below end lookahead now due true lt, promised_below end lookahead now due false lt)
@@ -28,7 +28,7 @@ rises_idle end lookahead now due le =
 
 -- it falls to the time of a message at most, as the due time does
 pub falls_to : (end lookahead now due later time w : ℕ) (waiting : Bool) → ((v : ℕ) → v ≤ due → v ≤ time → v ≤ later)
-    → w ≤ promised end lookahead now due waiting → w ≤ time → w ≤ promised end lookahead now later waiting
+    → w ≤ promise_by end lookahead now due waiting → w ≤ time → w ≤ promise_by end lookahead now later waiting
 falls_to end lookahead now due later time w true h low le =
     elim (cases_lt now end) [
       | inl lt ↦ omega (arith, promised_below end lookahead now due true lt, promised_below end lookahead now later true lt)
@@ -43,11 +43,11 @@ falls_to end lookahead now due later time w false h low le =
     ]
 
 -- a grant of the due time keeps it
-pub granted_rises : (end lookahead now due later : ℕ) (waiting : Bool) → now ≤ due → due ≤ later → promised end lookahead now due false ≤ promised end lookahead due later waiting
+pub granted_rises : (end lookahead now due later : ℕ) (waiting : Bool) → now ≤ due → due ≤ later → promise_by end lookahead now due false ≤ promise_by end lookahead due later waiting
 granted_rises end lookahead now due later waiting le more =
     elim (cases_lt now end) [
       | inl lt ↦ elim (cases_lt due end) [
-        | inl below ↦ elim waiting as (λ b. promised end lookahead now due false ≤ promised end lookahead due later b) [
+        | inl below ↦ elim waiting as (λ b. promise_by end lookahead now due false ≤ promise_by end lookahead due later b) [
           | true ↦ omega (arith, promised_below end lookahead now due false lt, promised_below end lookahead due later true below)
           | false ↦ omega (arith, promised_below end lookahead now due false lt, promised_below end lookahead due later false below)
         ]

@@ -21,10 +21,10 @@ use Rattle.kit_rounds.proofs.Knowing.{contributions_last}
 use Rattle.kit_rounds.proofs.Results.{same_result}
 use Rattle.kit_lbts.specs.declared.view.LbtsView.{LbtsView}
 use Rattle.kit_lbts.specs.Promises.{ledgers_of, unknown}
-use Rattle.kit_lbts.specs.Reduction.{Source, clock_of, gathered, reg_of, source, sources}
-use Rattle.kit_lbts.specs.Registers.{IsKnown, IsShown, Learnt, Registers, word_at}
-use Rattle.kit_lbts.specs.Progress.{closed, is_under_way, own_share}
-use Rattle.kit_lbts.specs.Rule.{LbtsRule, Seated, lbts_rule}
+use Rattle.kit_lbts.specs.Reduction.{Source, clock_of, share_with_taken, reg_of, source, sources}
+use Rattle.kit_lbts.specs.Registers.{IsKnown, ShowsRound, Learnt, Registers, word_at}
+use Rattle.kit_lbts.specs.Progress.{view_after_close, is_under_way, own_share}
+use Rattle.kit_lbts.specs.Rule.{LbtsRule, FederateRule, lbts_rule}
 use Rattle.kit_lbts.proofs.Changes.{ChangedAt, still, was}
 use Rattle.kit_lbts.proofs.Knowledge.{known_lasts}
 use Rattle.kit_lbts.proofs.LookSteps.{closes, way_is}
@@ -41,7 +41,7 @@ module _ (n : ℕ) (ledgers after : ℕ → Ledger) (last : Lasts ledgers after)
   pub known_on : (owner stage k : ℕ) (share : Share) → IsKnown n ledgers owner stage k share → IsKnown n after owner stage k share
   known_on owner stage k share h = known_lasts n owner stage k share ledgers after (λ j lt has. last j k has) h
 
-  pub shown_on : (owner stage k word : ℕ) → IsShown n ledgers owner stage k word → IsShown n after owner stage k word
+  pub shown_on : (owner stage k word : ℕ) → ShowsRound n ledgers owner stage k word → ShowsRound n after owner stage k word
   shown_on owner stage zero word h = h
   shown_on owner stage (suc k) word h = (h.0, h.1, known_on owner stage k h.0 h.2)
 
@@ -52,14 +52,15 @@ module _ (n : ℕ) (ledgers after : ℕ → Ledger) (last : Lasts ledgers after)
   pub registers_on : (m now : Memory) (j : ℕ) (p : P) → ((r : Reg) → r.owner ≡ j → now (Register r) ≡ m (Register r)) → Registers m n ledgers j p → Registers now n after j p
   registers_on m now j p words h =
       let c : ℕ = length p.client.contributions in
-      let move : (stage k round : ℕ) → IsShown n ledgers j stage k (word_at m j stage round) → IsShown n after j stage k (word_at now j stage round) =
-      λ stage k round s. subst (IsShown n after j stage k) (sym (words (reg_of j stage round) refl)) (shown_on j stage k (word_at m j stage round) s) in
+      let move : (stage k round : ℕ) → ShowsRound n ledgers j stage k (word_at m j stage round) → ShowsRound n after j stage k (word_at now j stage round) =
+      λ stage k round s. subst (ShowsRound n after j stage k) (sym (words (reg_of j stage round) refl)) (shown_on j stage k (word_at m j stage round) s) in
       record {
         now = λ stage l t. ⊎_elim
-            (λ (s : IsShown n ledgers j stage c (word_at m j stage c)). inl (move stage c c s))
-            (λ (s : IsShown n ledgers j stage (c - 2) (word_at m j stage c)). inr (move stage (c - 2) c s))
+            (λ (s : ShowsRound n ledgers j stage c (word_at m j stage c)). inl (move stage c c s))
+            (λ (s : ShowsRound n ledgers j stage (c - 2) (word_at m j stage c)). inr (move stage (c - 2) c s))
             (h.now stage l t);
         before = λ stage l t. move stage (c - 1) (c + 1) (h.before stage l t);
+        unused = λ stage round l t. words (reg_of j stage round) refl ∙ h.unused stage round l t;
         clock = words (clock_of j) refl ∙ h.clock;
         lows = h.lows;
       }
@@ -116,7 +117,7 @@ module _ (p : P) (m : Memory) (places : List P) (w : World lbts_rule p m places)
                 still (λ (x : P). x.own.buffers) places p.own.number p q sized j r t ∙ e.2,
               );
         };
-        each = each_after (Seated now new) places p.own.number q
+        each = each_after (FederateRule now new) places p.own.number q
             (record {
               registers = as_many (λ n. Registers now n (ledgers_of new) p.own.number q) g.registers;
               learnt = as_many (λ n. Learnt n (ledgers_of new) p.own.number q) g.learnt;
@@ -150,12 +151,12 @@ module _ (m : Memory) (places : List P) (me : ℕ) (q : P) (at : get_elem? place
   v = q.client
 
   by_test : (b : Bool) → (is_under_way v && length v.taken == length (sources v.scheme (length places) me)) ≡ b
-      → LbtsRule m (slice_set places me (record q { client = cond b (record v { results = v.results ++ gathered v.scheme (length places) me (own_share v) v.taken ∷ []; taken = [] }) v }))
+      → LbtsRule m (slice_set places me (record q { client = cond b (record v { results = v.results ++ share_with_taken v.scheme (length places) me (own_share v) v.taken ∷ []; taken = [] }) v }))
   by_test false e = subst (LbtsRule m) (sym (set_again places me q at)) rule
   by_test true e =
       let parts = and_parts (is_under_way v) (length v.taken == length (sources v.scheme (length places) me)) e in
       closes m places me q at rule q.own few (way_is v parts.0) (eqb-true _ _ parts.1)
 
-  pub closed_keeps : q.own.federates ≡ length places → LbtsRule m (slice_set places me (record q { client = closed q.own.federates me q.client }))
-  closed_keeps many = subst (λ (n : ℕ). LbtsRule m (slice_set places me (record q { client = closed n me q.client }))) (sym many)
+  pub closed_keeps : q.own.federates ≡ length places → LbtsRule m (slice_set places me (record q { client = view_after_close q.own.federates me q.client }))
+  closed_keeps many = subst (λ (n : ℕ). LbtsRule m (slice_set places me (record q { client = view_after_close n me q.client }))) (sym many)
       (by_test (is_under_way v && length v.taken == length (sources v.scheme (length places) me)) refl)

@@ -12,27 +12,27 @@ use Rattle.kit_rounds.specs.Steps.{Rises}
 use Rattle.kit_lbts.specs.declared.view.Noted.{Noted}
 use Rattle.kit_lbts.specs.declared.view.LbtsView.{LbtsView}
 use Rattle.kit_lbts.specs.Views.{time_of, due_of, is_new, is_empty, is_waiting, receipt_of, receipts_in}
-use Rattle.kit_lbts.specs.Promises.{added_of, promise_of, promised, ledger_of, copy_received}
-use Rattle.kit_lbts.specs.Progress.{started, noted, due_in, granted}
+use Rattle.kit_lbts.specs.Promises.{added_of, promise_of, promise_by, ledger_of, copy_received}
+use Rattle.kit_lbts.specs.Progress.{view_after_start, noted, due_in, view_after_grant}
 use Rattle.kit_lbts.specs.LedgerLaws.{ReadyIs, CollectsAre, GrantsAre}
 use Rattle.kit_lbts.proofs.Promising.{rises_idle, granted_rises}
 
 abbrev with_view : Place LbtsView → LbtsView → Ledger
 with_view p v = ledger_of (record p { client = v })
 
-idle_or_not : (end lookahead now due : ℕ) (b : Bool) → now ≤ due → promised end lookahead now due true ≤ promised end lookahead now due b
+idle_or_not : (end lookahead now due : ℕ) (b : Bool) → now ≤ due → promise_by end lookahead now due true ≤ promise_by end lookahead now due b
 idle_or_not end lookahead now due true le = omega arith
 idle_or_not end lookahead now due false le = rises_idle end lookahead now due le
 
-ready_rises : (p : Place LbtsView) (b : Bool) → is_new p.client.request ≡ b → time_of p.client ≤ due_of (cond b (started p.own.number p.client) p.client)
-    → Rises (ledger_of p) (with_view p (cond b (started p.own.number p.client) p.client))
+ready_rises : (p : Place LbtsView) (b : Bool) → is_new p.client.request ≡ b → time_of p.client ≤ due_of (cond b (view_after_start p.own.number p.client) p.client)
+    → Rises (ledger_of p) (with_view p (cond b (view_after_start p.own.number p.client) p.client))
 ready_rises p false new le = record { rises = omega arith; is = refl }
 ready_rises p true new le =
     let v = p.client in
-    let after = started p.own.number v in
+    let after = view_after_start p.own.number v in
     let waits : is_waiting v ≡ true = ap (λ b. b || not (is_empty v.outbox)) new in
     record {
-      rises = omega (arith, ap (promised v.federation.end (added_of p) (time_of v) (due_of v)) waits, idle_or_not v.federation.end (added_of p) (time_of v) (due_of after) (is_waiting after) le);
+      rises = omega (arith, ap (promise_by v.federation.end (added_of p) (time_of v) (due_of v)) waits, idle_or_not v.federation.end (added_of p) (time_of v) (due_of after) (is_waiting after) le);
       is = refl;
     }
 
@@ -57,7 +57,7 @@ same_receipts d due ns =
     ∙ ap (λ fs. receipts_in ns ++ fs) (no_receipts d due) ∙ append-nil (receipts_in ns)
 
 -- the time that was granted is the logical time
-pub granted_time : (j d : ℕ) (v : LbtsView) → time_of (granted j d v) ≡ d
+pub granted_time : (j d : ℕ) (v : LbtsView) → time_of (view_after_grant j d v) ≡ d
 granted_time j d v =
     ap now_of (map-append (λ (e : Noted). e.entry) (v.journal ++ map (λ m. noted (Delivered d m)) (due_in d v.queue)) (noted (Granted d) ∷ []))
     ∙ now_of-granted (map (λ (e : Noted). e.entry) (v.journal ++ map (λ m. noted (Delivered d m)) (due_in d v.queue))) d
@@ -66,13 +66,13 @@ pub grants_are : GrantsAre
 grants_are p idle ahead later =
     let v = p.client in
     let d = due_of v in
-    let q = granted p.own.number d v in
+    let q = view_after_grant p.own.number d v in
     record {
       rises =
           omega (
             arith,
-            ap (promised v.federation.end (added_of p) (time_of v) d) idle,
-            ap (λ t. promised v.federation.end (added_of p) t (due_of q) (is_waiting q)) (granted_time p.own.number d v),
+            ap (promise_by v.federation.end (added_of p) (time_of v) d) idle,
+            ap (λ t. promise_by v.federation.end (added_of p) t (due_of q) (is_waiting q)) (granted_time p.own.number d v),
             granted_rises v.federation.end (added_of p) (time_of v) d (due_of q) (is_waiting q) ahead later,
           );
       is = ap (λ fs. record (ledger_of p) { promise = promise_of (record p { client = q }); received = map copy_received fs }) (same_receipts d (due_in d v.queue) v.journal);

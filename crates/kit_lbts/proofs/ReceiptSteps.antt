@@ -23,7 +23,7 @@ use Rattle.kit_rounds.specs.Steps.{Receives}
 use Rattle.kit_lbts.specs.declared.view.Noted.{Noted}
 use Rattle.kit_lbts.specs.declared.view.LbtsView.{LbtsView}
 use Rattle.kit_lbts.specs.Views.{entries_of, time_of, due_of, due_by, is_waiting, is_in_hand, is_orphan, receipt_of, receipts_in}
-use Rattle.kit_lbts.specs.Promises.{added_of, promised, ledger_of, copy_received}
+use Rattle.kit_lbts.specs.Promises.{added_of, promise_by, ledger_of, copy_received}
 use Rattle.kit_lbts.specs.Progress.{head_in, message_in, spent, taken_in}
 use Rattle.kit_lbts.specs.LedgerLaws.{after, stamp_read, ReceiptsAre}
 use Rattle.kit_lbts.proofs.Promising.{falls_to}
@@ -98,7 +98,7 @@ module _ (p : Place LbtsView) (i k body : ℕ) where
         omega (
           arith,
           ap (λ (l : Ledger). l.promise) e,
-          ap (λ t. promised v.federation.end (added_of p) t (due_of r) (is_waiting v)) same_time,
+          ap (λ t. promise_by v.federation.end (added_of p) t (due_of r) (is_waiting v)) same_time,
           falls_to v.federation.end (added_of p) (time_of v) (due_of v) (due_of r) m.time x (is_waiting v) (due_falls v.request m.time v.queue queue taken) low le,
         );
     is =

@@ -29,9 +29,9 @@ use Rattle.kit_lbts.specs.declared.view.LbtsView.{LbtsView}
 use Rattle.kit_lbts.specs.Views.{is_in_hand, is_spent, time_of}
 use Rattle.kit_lbts.specs.Promises.{bound_of, ledger_of}
 use Rattle.kit_lbts.specs.Letters.{Letters, letter_in}
-use Rattle.kit_lbts.specs.Seats.{Granting, Heard, Holdings, Queue, Sends, waits_in}
-use Rattle.kit_lbts.specs.Ways.{Way, WayBetween, marked, posted_to}
-use Rattle.kit_lbts.specs.Progress.{progressed, put_down}
+use Rattle.kit_lbts.specs.Seats.{Granting, Receiving, Holdings, Queue, Sends, waits_in}
+use Rattle.kit_lbts.specs.Ways.{Way, WayBetween, marked, letters_posted_to}
+use Rattle.kit_lbts.specs.Progress.{view_after, put_down}
 use Rattle.kit_lbts.specs.Rule.{lbts_rule}
 use Rattle.kit_lbts.specs.MessageLaws.{MaySettle, ReleasesKeep}
 use Rattle.kit_lbts.proofs.AsideSteps.{asides_leave_ledgers}
@@ -66,7 +66,7 @@ module _ (p : P) (i k : ℕ) (li : i < p.own.federates) (lk : k < p.own.buffers)
   now = with_word m (Count i k) (becomes (Released i k) (m (Count i k)))
 
   abbrev q : P
-  q = place_after progressed (Released i k) p
+  q = place_after view_after (Released i k) p
 
   abbrev with : LbtsView → P
   with v = record { own = own_after (Released i k) p.own; client = v }
@@ -157,14 +157,14 @@ module _ (p : P) (i k : ℕ) (li : i < p.own.federates) (lk : k < p.own.buffers)
           others = old.others;
         }
 
-    heard : Heard then
+    heard : Receiving then
     heard = let old = (mine p m places w now deed).heard in record { orphans = old.orphans; came = old.came; past = old.past }
 
     granting : Granting (with then)
     granting = let old = (mine p m places w now deed).granting in record { lawful = old.lawful; below = old.below; within = old.within; wish = old.wish; asked = old.asked }
 
     sends : Sends me (with then)
-    sends = let old = (mine p m places w now deed).sends in record { own = old.own; numbered = old.numbered; next = old.next; timed = old.timed; takes_back = old.takes_back; waiting = old.waiting; late = old.late; transported = old.transported; each = λ x lx. old.each x lx ∙ ap (λ (l : List Message). map (λ (f : Filled). f.message) (posted_to x p.client) ++ l) (sym (left_same p.client.sending (own_after deed p.own).stock p.own.stock p.client.federation x p.client.outbox (λ y. refl))); receivers = old.receivers; few = old.few; new = old.new }
+    sends = let old = (mine p m places w now deed).sends in record { own = old.own; numbered = old.numbered; next = old.next; timed = old.timed; takes_back = old.takes_back; waiting = old.waiting; late = old.late; transported = old.transported; behind = old.behind; once = old.once; each = λ x lx. old.each x lx ∙ ap (λ (l : List Message). map (λ (f : Filled). f.message) (letters_posted_to x p.client) ++ l) (sym (left_same p.client.sending (own_after deed p.own).stock p.own.stock p.client.federation x p.client.outbox (λ y. refl))); receivers = old.receivers; coloured = old.coloured; few = old.few; new = old.new }
 
     way_me : (a : ℕ) (r : P) → Was places me p q a r → WayBetween now a me r q
     way_me a r ta =
@@ -175,13 +175,13 @@ module _ (p : P) (i k : ℕ) (li : i < p.own.federates) (lk : k < p.own.buffers)
         subst (λ (n : ℕ). Way n (marked now a me) a me r.client q.client) (sym b)
         (way_still ta.before.own.buffers (marked m a me) (marked now a me) a me ta.before.client then r.client q.client (λ x lx. refl) s (ap got left.is) new)
 
-    pub release : RuleStays lbts_rule m places now (slice_set places p.own.number (place_after progressed (Released i k) p))
+    pub release : RuleStays lbts_rule m places now (slice_set places p.own.number (place_after view_after (Released i k) p))
     release = kept p m places w now deed (record { words = λ r. refl; federation = ap (λ (v : LbtsView). v.federation) left.is; same = ap said left.is; time = ap time_of left.is }) (record {
       letters = subst (λ (v : LbtsView). Letters now me (with v)) (sym left.is) letters;
       others = λ a r other at. letters_aside m now a r (λ x lx. counted a x) (λ x y lx on. refl) (w.client.each a r at).letters;
       holdings = subst (λ (v : LbtsView). Holdings (with v)) (sym left.is) holdings;
       queue = subst (λ (v : LbtsView). Queue me (with v)) (sym left.is) queue;
-      heard = subst Heard (sym left.is) heard;
+      heard = subst Receiving (sym left.is) heard;
       granting = subst (λ (v : LbtsView). Granting (with v)) (sym left.is) granting;
       sends = subst (λ (v : LbtsView). Sends me (with v)) (sym left.is) sends;
       ways = ways_to places me p q (WayBetween now) way_me (λ a l r s other at ta.
@@ -250,5 +250,5 @@ releases_keep p i k li lk held may m places w = ⊎_elim
     (cases_Bool (list_any (is_spent i k) p.client.spent)))
     may
   where
-    by_spent : list_any (is_spent i k) p.client.spent ≡ true → RuleStays lbts_rule m places (with_word m (Count i k) (becomes (Released i k) (m (Count i k)))) (slice_set places p.own.number (place_after progressed (Released i k) p))
+    by_spent : list_any (is_spent i k) p.client.spent ≡ true → RuleStays lbts_rule m places (with_word m (Count i k) (becomes (Released i k) (m (Count i k)))) (slice_set places p.own.number (place_after view_after (Released i k) p))
     by_spent e = release p i k li lk held m places w p.client.queue (filter (λ s. not (is_spent i k s)) p.client.spent) (spent_left p i k li lk held m places w e)

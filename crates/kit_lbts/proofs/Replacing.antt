@@ -13,7 +13,7 @@ use Rattle.kit_lbts.specs.declared.view.LbtsView.{LbtsView}
 use Rattle.kit_lbts.specs.Promises.{ledger_of, ledgers_of}
 use Rattle.kit_lbts.specs.Registers.{Registers, Learnt}
 use Rattle.kit_lbts.specs.Ways.{WayBetween}
-use Rattle.kit_lbts.specs.Rule.{Seated, LbtsRule}
+use Rattle.kit_lbts.specs.Rule.{FederateRule, LbtsRule}
 use Rattle.kit_lbts.proofs.RoundSteps.{ledger_before}
 
 module _ (m : Memory) (places : List (Place LbtsView)) (j : ℕ) (p q : Place LbtsView) (at : get_elem? places j ≡ some p) (rule : LbtsRule m places) (same : ledger_of q ≡ ledger_of p) where
@@ -28,7 +28,7 @@ module _ (m : Memory) (places : List (Place LbtsView)) (j : ℕ) (p q : Place Lb
   as_before : (P : ℕ → (ℕ → Ledger) → Type 0) → P (length places) (ledgers_of places) → P (length after) (ledgers_of after)
   as_before P h = subst₂ P (sym (length-set places j q)) (sym ledgers_same) h
 
-  seated_after : (i : ℕ) (r : Place LbtsView) → Seated m places i r → Seated m after i r
+  seated_after : (i : ℕ) (r : Place LbtsView) → FederateRule m places i r → FederateRule m after i r
   seated_after i r h = record {
     registers = as_before (λ n ls. Registers m n ls i r) h.registers;
     learnt = as_before (λ n ls. Learnt n ls i r) h.learnt;
@@ -41,7 +41,7 @@ module _ (m : Memory) (places : List (Place LbtsView)) (j : ℕ) (p q : Place Lb
   }
 
   pub replaced : (q.client.federation ≡ p.client.federation) × (q.client.scheme ≡ p.client.scheme) × (q.own.buffers ≡ p.own.buffers)
-      → Seated m places j q → ((i : ℕ) (r : Place LbtsView) → get_elem? places i ≡ some r → WayBetween m i j r p → WayBetween m i j r q) → ((i : ℕ) (r : Place LbtsView) → WayBetween m j i p r → WayBetween m j i q r)
+      → FederateRule m places j q → ((i : ℕ) (r : Place LbtsView) → get_elem? places i ≡ some r → WayBetween m i j r p → WayBetween m i j r q) → ((i : ℕ) (r : Place LbtsView) → WayBetween m j i p r → WayBetween m j i q r)
       → (WayBetween m j j p p → WayBetween m j j q q) → LbtsRule m after
   replaced kept mine into out own = record {
     common = record {
@@ -53,7 +53,7 @@ module _ (m : Memory) (places : List (Place LbtsView)) (j : ℕ) (p q : Place Lb
           (let h = rule.common.each j p at in (kept.0 ∙ h.0, kept.1 ∙ h.1, kept.2 ∙ h.2))
           (λ i r ne there. rule.common.each i r there);
     };
-    each = each_after (λ i r. Seated m after i r) places j q (seated_after j q mine) (λ i r ne there. seated_after i r (rule.each i r there));
+    each = each_after (λ i r. FederateRule m after i r) places j q (seated_after j q mine) (λ i r ne there. seated_after i r (rule.each i r there));
     ways = λ a b x y first second.
         each_after (λ i r. (k : ℕ) (s : Place LbtsView) → get_elem? after k ≡ some s → WayBetween m i k r s) places j q
         (each_after (λ k s. WayBetween m j k q s) places j q (own (rule.ways j j p p at at)) (λ k s ne there. out k s (rule.ways j k p s at there)))

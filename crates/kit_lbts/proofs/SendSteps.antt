@@ -1,5 +1,5 @@
 -- A copy is posted.
-use Rattle.std.proofs.Common.{◌≡◌, ◌≢◌, ℕ, ◌+◌, ◌/◌, ◌%◌, ◌^◌, ◌<◌, ◌≤◌, ◌==◌, nat_le, Bool, cond, true, false, not, ⊎_elim, List, [], ◌∷◌, ◌++◌, length, map, filter, drop, Some, None, refl, sym, ap, ◌∙◌, subst, arith, eqb-true, eq-eqb}
+use Rattle.std.proofs.Common.{◌≡◌, ◌≢◌, ℕ, ◌+◌, ◌/◌, ◌%◌, ◌^◌, ◌<◌, ◌≤◌, ◌==◌, nat_le, Bool, cond, true, false, not, ⊎_elim, List, [], ◌∷◌, ◌++◌, length, map, filter, drop, Option, Some, None, refl, sym, ap, ◌∙◌, subst, arith, eqb-true, eq-eqb}
 use Rattle.std.specs.List.{count_by, All, Contains}
 use Rattle.std.specs.Prelude.{slice_set, bit_xor}
 use Rattle.std.specs.Int.{bit_at}
@@ -21,7 +21,7 @@ use Rattle.kit_ground.specs.declared.place.Place.{Place}
 use Rattle.kit_ground.specs.declared.place.SeatBuffers.{SeatBuffers}
 use Rattle.kit_ground.specs.Memory.{Memory, with_word}
 use Rattle.kit_ground.specs.Rules.{RuleStays, World}
-use Rattle.kit_ground.specs.Steps.{place_after, becomes, buffer_of, buffer_after_post as also_posted}
+use Rattle.kit_ground.specs.Steps.{place_after, becomes, buffer_of, buffer_after_post}
 use Rattle.kit_ground.proofs.Bits.{flipped_else, flipped_here, joined_else, joined_here}
 use Rattle.kit_ground.proofs.Lists.{at_inside}
 use Rattle.kit_ground.proofs.MailWords.{same_buffer}
@@ -29,18 +29,20 @@ use Rattle.kit_ground.proofs.Memories.{mail_else, stored_here}
 use Rattle.kit_ground.proofs.PlaceFacts.{buffers_wide}
 use Rattle.kit_rules.specs.Parts.{Parts}
 use Rattle.kit_rules.specs.Delivery.{has_bit, is_transported}
+use Rattle.kit_rounds.specs.Ledgers.{last_run}
 use Rattle.kit_lbts.specs.declared.view.Filled.{Filled}
 use Rattle.kit_lbts.specs.declared.view.Posting.{Posting}
 use Rattle.kit_lbts.specs.declared.view.LbtsView.{LbtsView}
-use Rattle.kit_lbts.specs.Views.{is_for, is_in_hand, is_new, is_empty, time_of, transported_of}
+use Rattle.kit_lbts.specs.Views.{has_receiver, is_in_hand, is_new, is_empty, time_of, transported_of}
 use Rattle.kit_lbts.specs.Promises.{added_of, copy_posted}
 use Rattle.kit_lbts.specs.Letters.{IsSending, Letters, letter_in}
 use Rattle.kit_lbts.specs.LedgerLaws.{IsPostable}
-use Rattle.kit_lbts.specs.Seats.{Sends, left_of}
-use Rattle.kit_lbts.specs.Ways.{Way, WayBetween, copies_on_way, marked, buffer_after_post}
-use Rattle.kit_lbts.specs.Progress.{progressed}
+use Rattle.kit_lbts.specs.Seats.{AreChargedOnce, Sends, left_of}
+use Rattle.kit_lbts.specs.Ways.{Way, WayBetween, copies_on_way, marked, letters_posted_to}
+use Rattle.kit_lbts.specs.Progress.{view_after}
 use Rattle.kit_lbts.specs.Rule.{RoundsHold, lbts_rule}
 use Rattle.kit_lbts.specs.MessageLaws.{PostsKeep}
+use Rattle.kit_lbts.proofs.Charging.{behind_by, posted_once}
 use Rattle.kit_lbts.proofs.Changes.{Was, kept, mine, still, ways_from}
 use Rattle.kit_lbts.proofs.Dues.{adds, due_ahead}
 use Rattle.kit_lbts.proofs.LetterFacts.{letters_aside, letter_still}
@@ -70,7 +72,7 @@ all_left A true xs h = All-drop A 1 xs h
 all_left A false xs h = h
 
 -- where no buffer is being posted, all is left
-pub left_none : (s : SeatBuffers) (f : Parts) (i : ℕ) (ms : List Message) → left_of None s f i ms ≡ filter (is_for f i) ms
+pub left_none : (s : SeatBuffers) (f : Parts) (i : ℕ) (ms : List Message) → left_of None s f i ms ≡ filter (has_receiver f i) ms
 left_none s f i [] = refl
 left_none s f i (m ∷ ms) = refl
 
@@ -95,7 +97,7 @@ module _ (p : P) (k j : ℕ) (lk : k < p.own.buffers) (lj : j < p.own.federates)
   now = with_word m (Mail j p.own.number (k / 64)) (becomes (PostedTo k j) (m (Mail j p.own.number (k / 64))))
 
   abbrev q : P
-  q = place_after progressed (PostedTo k j) p
+  q = place_after view_after (PostedTo k j) p
 
   some_owed : mask ≢ 0
   some_owed e = let z : bit_at mask j ≡ 0 = ap (λ (x : ℕ). bit_at x j) e ∙ bit_at-zero j in let o = owed in absurd (omega arith)
@@ -110,10 +112,10 @@ module _ (p : P) (k j : ℕ) (lk : k < p.own.buffers) (lj : j < p.own.federates)
   long = let e : length p.own.stock.buffers ≡ p.own.buffers = buffers_wide p.own.buffers m places w.floor me p w.here in let l = lk in omega arith
 
   owed_here : (buffer_of q.own.stock k).to_post ≡ bit_xor mask (2 ^ j)
-  owed_here = ap (λ (c : Buffer). c.to_post) (buffer_here p.own.stock k (also_posted j (buffer_of p.own.stock k)) long)
+  owed_here = ap (λ (c : Buffer). c.to_post) (buffer_here p.own.stock k (buffer_after_post j (buffer_of p.own.stock k)) long)
 
   owed_there : (x : ℕ) → x ≢ k → (buffer_of q.own.stock x).to_post ≡ (buffer_of p.own.stock x).to_post
-  owed_there x other = ap (λ (c : Buffer). c.to_post) (buffer_else p.own.stock k (also_posted j (buffer_of p.own.stock k)) x other)
+  owed_there x other = ap (λ (c : Buffer). c.to_post) (buffer_else p.own.stock k (buffer_after_post j (buffer_of p.own.stock k)) x other)
 
   -- ---- whether it is the last post of the message
   abbrev last : Bool
@@ -172,15 +174,15 @@ module _ (p : P) (k j : ℕ) (lk : k < p.own.buffers) (lj : j < p.own.federates)
   left_before : (i : ℕ) → left_of p.client.sending p.own.stock f i p.client.outbox ≡ left_of (Some k) p.own.stock f i (before.first ∷ before.rest)
   left_before i = λ t. left_of (sending_is t) p.own.stock f i (before.outbox t)
 
-  left_last : (i : ℕ) → last ≡ true → left_of q.client.sending q.own.stock f i q.client.outbox ≡ filter (is_for f i) before.rest
+  left_last : (i : ℕ) → last ≡ true → left_of q.client.sending q.own.stock f i q.client.outbox ≡ filter (has_receiver f i) before.rest
   left_last i e = (λ t. left_of (sending_last e t) q.own.stock f i (outbox_last e t)) ∙ left_none q.own.stock f i before.rest
 
   left_more : (i : ℕ) → last ≡ false → left_of q.client.sending q.own.stock f i q.client.outbox ≡ left_of (Some k) q.own.stock f i (before.first ∷ before.rest)
   left_more i e = λ t. left_of (sending_same e t) q.own.stock f i ((outbox_same e ∙ before.outbox) t)
 
   -- the message goes to j where the mask has its bit
-  by_bit : (i : ℕ) (s : SeatBuffers) (b : Bool) → has_bit (buffer_of s k).to_post i ≡ b → left_of (Some k) s f i (before.first ∷ before.rest) ≡ cond b (before.first ∷ filter (is_for f i) before.rest) (filter (is_for f i) before.rest)
-  by_bit i s b e = ap (λ (c : Bool). cond c (before.first ∷ filter (is_for f i) before.rest) (filter (is_for f i) before.rest)) e
+  by_bit : (i : ℕ) (s : SeatBuffers) (b : Bool) → has_bit (buffer_of s k).to_post i ≡ b → left_of (Some k) s f i (before.first ∷ before.rest) ≡ cond b (before.first ∷ filter (has_receiver f i) before.rest) (filter (has_receiver f i) before.rest)
+  by_bit i s b e = ap (λ (c : Bool). cond c (before.first ∷ filter (has_receiver f i) before.rest) (filter (has_receiver f i) before.rest)) e
 
   bit_owed : has_bit mask j ≡ true
   bit_owed = ap (λ (x : ℕ). x == 1) owed
@@ -207,16 +209,16 @@ module _ (p : P) (k j : ℕ) (lk : k < p.own.buffers) (lj : j < p.own.federates)
   abbrev made : Posting
   made = record { to = j; filled = letter_in p.client k }
 
-  posted_push : (i : ℕ) → buffer_after_post i q.client ≡ buffer_after_post i p.client ++ map (λ (x : Posting). x.filled) (cond (j == i) (made ∷ []) [])
+  posted_push : (i : ℕ) → letters_posted_to i q.client ≡ letters_posted_to i p.client ++ map (λ (x : Posting). x.filled) (cond (j == i) (made ∷ []) [])
   posted_push i =
       ap (map (λ (x : Posting). x.filled)) (filter-append (λ (x : Posting). x.to == i) p.client.posted (made ∷ []))
       ∙ map-append (λ (x : Posting). x.filled) (filter (λ (x : Posting). x.to == i) p.client.posted) (cond (j == i) (made ∷ []) [])
 
-  posted_here : buffer_after_post j q.client ≡ buffer_after_post j p.client ++ letter_in p.client k ∷ []
-  posted_here = posted_push j ∙ ap (λ (b : Bool). buffer_after_post j p.client ++ map (λ (x : Posting). x.filled) (cond b (made ∷ []) [])) (eq-eqb j j refl)
+  posted_here : letters_posted_to j q.client ≡ letters_posted_to j p.client ++ letter_in p.client k ∷ []
+  posted_here = posted_push j ∙ ap (λ (b : Bool). letters_posted_to j p.client ++ map (λ (x : Posting). x.filled) (cond b (made ∷ []) [])) (eq-eqb j j refl)
 
-  posted_there : (i : ℕ) → i ≢ j → buffer_after_post i q.client ≡ buffer_after_post i p.client
-  posted_there i other = posted_push i ∙ (ap (λ (b : Bool). buffer_after_post i p.client ++ map (λ (x : Posting). x.filled) (cond b (made ∷ []) [])) (ne_eqb j i (λ e. other (sym e))) ∙ append-nil (buffer_after_post i p.client))
+  posted_there : (i : ℕ) → i ≢ j → letters_posted_to i q.client ≡ letters_posted_to i p.client
+  posted_there i other = posted_push i ∙ (ap (λ (b : Bool). letters_posted_to i p.client ++ map (λ (x : Posting). x.filled) (cond b (made ∷ []) [])) (ne_eqb j i (λ e. other (sym e))) ∙ append-nil (letters_posted_to i p.client))
 
   abbrev messages : List Filled → List Message
   messages l = map (λ (x : Filled). x.message) l
@@ -225,22 +227,34 @@ module _ (p : P) (k j : ℕ) (lk : k < p.own.buffers) (lj : j < p.own.federates)
   message_is = ap (λ (x : Filled). x.message) before.filled
 
   abbrev Sent : ℕ → Type 0
-  Sent i = filter (is_for f i) (transported_of q.client) ≡ messages (buffer_after_post i q.client) ++ left_of q.client.sending q.own.stock f i q.client.outbox
+  Sent i = filter (has_receiver f i) (transported_of q.client) ≡ messages (letters_posted_to i q.client) ++ left_of q.client.sending q.own.stock f i q.client.outbox
 
   sent_here : Sent j
   sent_here =
       let old = (mine p m places w now deed).sends in
       let left = left_of q.client.sending q.own.stock f j q.client.outbox in
-      old.each j lj ∙ (ap (λ (l : List Message). messages (buffer_after_post j p.client) ++ l) left_here
-      ∙ (push_assoc (messages (buffer_after_post j p.client)) before.first left
+      old.each j lj ∙ (ap (λ (l : List Message). messages (letters_posted_to j p.client) ++ l) left_here
+      ∙ (push_assoc (messages (letters_posted_to j p.client)) before.first left
       ∙ ap (λ (l : List Message). l ++ left) (sym (ap messages posted_here
-      ∙ (map-append (λ (x : Filled). x.message) (buffer_after_post j p.client) (letter_in p.client k ∷ [])
-      ∙ ap (λ (x : Message). messages (buffer_after_post j p.client) ++ x ∷ []) message_is)))))
+      ∙ (map-append (λ (x : Filled). x.message) (letters_posted_to j p.client) (letter_in p.client k ∷ [])
+      ∙ ap (λ (x : Message). messages (letters_posted_to j p.client) ++ x ∷ []) message_is)))))
 
   sent_there : (i : ℕ) → i < p.own.federates → i ≢ j → Sent i
   sent_there i li other =
       let old = (mine p m places w now deed).sends in
       old.each i li ∙ (λ t. messages (sym (posted_there i other) t) ++ left_there i other t)
+
+  abbrev Once : List Message → Option ℕ → Type 0
+  Once outbox sending = AreChargedOnce f p.client.state.sends outbox sending p.client.filled
+
+  once_sent : Once q.client.outbox q.client.sending
+  once_sent =
+      let old = (mine p m places w now deed).sends in
+      ⊎_elim
+      (λ (e : last ≡ true). subst (λ (x : List Message × Option ℕ). Once x.0 x.1) (λ t. (sym (outbox_last e) t, sym (sending_last e) t))
+      (posted_once f p.client.state.sends old.numbered p.client.outbox before.rest before.first before.outbox p.client.filled k old.behind.0 old.behind.1 message_is (subst (Once p.client.outbox) sending_is old.once)))
+      (λ (e : last ≡ false). subst (λ (x : List Message × Option ℕ). Once x.0 x.1) (λ t. (sym (outbox_same e) t, (sending_is ∙ sym (sending_same e)) t)) old.once)
+      (cases_Bool last)
 
   sends : Sends me q
   sends =
@@ -254,8 +268,11 @@ module _ (p : P) (k j : ℕ) (lk : k < p.own.buffers) (lj : j < p.own.federates)
         waiting = all_left (Contains p.client.state.sends) last p.client.outbox old.waiting;
         late = all_left (λ (x : Message). time_of p.client + added_of p ≤ x.time) last p.client.outbox old.late;
         transported = all_left (λ (x : Message). is_transported p.client.federation x ≡ true) last p.client.outbox old.transported;
+        behind = behind_by last old.behind.0 p.client.outbox (transported_of p.client) old.behind.1;
+        once = once_sent;
         each = λ i li. dite (ℕ_discrete i j) (λ same. subst Sent (sym same) sent_here) (λ other. sent_there i li other);
         receivers = All-push (λ (x : Posting). x.to < p.own.federates) p.client.posted made old.receivers lj;
+        coloured = All-push (λ (x : Posting). x.filled.colour ≤ last_run p.client.contributions) p.client.posted made old.coloured (omega (arith, ap (λ (x : Filled). x.colour) before.filled));
         few = old.few;
         new = λ e. let n = (old.new e).3 in let o = before.outbox in absurd (cc);
       }
@@ -321,7 +338,7 @@ module _ (p : P) (k j : ℕ) (lk : k < p.own.buffers) (lj : j < p.own.federates)
   rounds = posts_keep_rounds places me p q (copy_posted made) w.here w.client.rounds
       (posts_are (length places) p k j (letter_in p.client k) (subst (λ (n : ℕ). j < n) (w.floor.each me p w.here).federates lj) postable)
 
-  pub post : RuleStays lbts_rule m places now (slice_set places p.own.number (place_after progressed (PostedTo k j) p))
+  pub post : RuleStays lbts_rule m places now (slice_set places p.own.number (place_after view_after (PostedTo k j) p))
   post = kept p m places w now deed (record { words = λ r. refl; federation = refl; same = refl; time = refl }) (record {
     letters = letters;
     others = λ i r other at. letters_aside m now i r (λ x lx on. on) (λ x y lx on. refl) (w.client.each i r at).letters;

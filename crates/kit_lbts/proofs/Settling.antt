@@ -12,7 +12,7 @@ use Rattle.kit_queue.specs.Entries.{buffer_of, first_buffer, is_settleable, with
 use Rattle.kit_lbts.specs.Views.{is_in_hand, is_spent}
 use Rattle.kit_lbts.specs.Promises.{bound_of}
 use Rattle.kit_lbts.specs.MessageLaws.{SettlesTell}
-use Rattle.kit_lbts.specs.Rule.{Seated, lbts_rule}
+use Rattle.kit_lbts.specs.Rule.{FederateRule, lbts_rule}
 use Rattle.kit_lbts.specs.Seats.{waits_in}
 use Rattle.kit_lbts.proofs.Hands.{count_any, count_cons, count_has, found_passes, give_up, one_if, waits_here}
 use Rattle.kit_lbts.proofs.Pendings.{any_at}
@@ -101,7 +101,7 @@ one_reason h a b c e lt pos = (omega arith, omega arith, omega arith)
 
 pub settles_tell : SettlesTell lbts_rule
 settles_tell p below i k le first m places w =
-    let rule : Seated m places p.own.number p = w.client.each p.own.number p w.here in
+    let rule : FederateRule m places p.own.number p = w.client.each p.own.number p w.here in
     let t = first_is below i k p.client.queue first in
     let e : Entry = t.0 in
     let has = (found_passes (is_settleable below) p.client.queue e t.1.found).1 in

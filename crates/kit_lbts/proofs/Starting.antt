@@ -37,9 +37,10 @@ use Rattle.kit_lbts.specs.Promises.{added_of, ledger_of}
 use Rattle.kit_lbts.specs.Letters.{Letters}
 use Rattle.kit_lbts.specs.Seats.{Granting, Sends, TakeBack, left_of, most_sends}
 use Rattle.kit_lbts.specs.Ways.{Way, marked}
-use Rattle.kit_lbts.specs.Progress.{ready, started}
-use Rattle.kit_lbts.specs.Rule.{LbtsRule, Seated, lbts_rule}
+use Rattle.kit_lbts.specs.Progress.{view_when_ready, view_after_start}
+use Rattle.kit_lbts.specs.Rule.{LbtsRule, FederateRule, lbts_rule}
 use Rattle.kit_parts.proofs.Among.{among_contains, contains_among}
+use Rattle.kit_lbts.proofs.Charging.{none_charged}
 use Rattle.kit_lbts.proofs.Changes.{kept_at, still, was}
 use Rattle.kit_lbts.proofs.Dues.{adds}
 use Rattle.kit_parts.proofs.Gains.{Gain, Named, Once, gain_by_step}
@@ -82,7 +83,7 @@ floor_still b m places me p q here same h =
       stop = h.stop;
     }
 
-module _ (p : P) (fresh : is_new p.client.request ≡ true) (few : length (started p.own.number p.client).state.sends ≤ most_sends) (m : Memory) (places : List P) (w : World lbts_rule p m places) where
+module _ (p : P) (fresh : is_new p.client.request ≡ true) (few : length (view_after_start p.own.number p.client).state.sends ≤ most_sends) (m : Memory) (places : List P) (w : World lbts_rule p m places) where
   abbrev me : ℕ
   me = p.own.number
 
@@ -93,12 +94,12 @@ module _ (p : P) (fresh : is_new p.client.request ≡ true) (few : length (start
   after = state_after p.client.federation p.own.number Start 0 0 p.client.state
 
   abbrev then : LbtsView
-  then = started p.own.number p.client
+  then = view_after_start p.own.number p.client
 
   abbrev pub q : P
-  q = record p { client = started p.own.number p.client }
+  q = record p { client = view_after_start p.own.number p.client }
 
-  rule : Seated m places p.own.number p
+  rule : FederateRule m places p.own.number p
   rule = w.client.each me p w.here
 
   none : (p.client.state.sends ≡ []) × (p.client.posted ≡ []) × (p.client.journal ≡ []) × (p.client.outbox ≡ []) × (p.client.in_hand ≡ [])
@@ -192,22 +193,27 @@ module _ (p : P) (fresh : is_new p.client.request ≡ true) (few : length (start
     waiting = All-filter (is_transported f) (Contains after.sends) after.sends (All-contains_itself after.sends);
     late = subst (λ (t : ℕ). All (λ (x : Message). t + added_of p ≤ x.time) then.outbox) (sym time_zero) (All-filter (is_transported f) (λ (x : Message). 0 + added_of p ≤ x.time) after.sends late);
     transported = filter_passes (is_transported f) after.sends;
+    behind = (0, refl);
+    once =
+        let none = none_charged f p.client.state.sends rule.sends.numbered none.0 p.client.outbox p.client.sending p.client.filled rule.sends.once in
+        record { sent = λ k x e. absurd (none k x e); gone = λ k x e. absurd (none k x e); apart = λ k l x y ne e. absurd (none k x e) };
     each = λ i li.
         sym (left_none p.own.stock f i then.outbox)
         ∙ ((λ t. left_of (sym sending_none t) p.own.stock f i then.outbox)
         ∙ ap (λ (l : List Filled). map (λ (x : Filled). x.message) l ++ left_of p.client.sending p.own.stock f i then.outbox) (λ t. map (λ (x : Posting). x.filled) (filter (λ (x : Posting). x.to == i) (sym none.1 t))));
     receivers = rule.sends.receivers;
+    coloured = rule.sends.coloured;
     few = few;
     new = λ e. absurd (let t : false ≡ true = ap is_new e in (cc));
   }
 
-  ready_is_started : ready me p.client ≡ then
-  ready_is_started = ap (λ (b : Bool). cond b (started p.own.number p.client) p.client) fresh
+  ready_is_started : view_when_ready me p.client ≡ then
+  ready_is_started = ap (λ (b : Bool). cond b (view_after_start p.own.number p.client) p.client) fresh
 
   rises : Rises (ledger_of p) (ledger_of q)
   rises = subst (λ (v : LbtsView). Rises (ledger_of p) (ledger_of (record p { client = v }))) ready_is_started (ready_is p (let z = time_zero in omega arith))
 
-  pub start : LbtsRule m (slice_set places p.own.number (record p { client = started p.own.number p.client }))
+  pub start : LbtsRule m (slice_set places p.own.number (record p { client = view_after_start p.own.number p.client }))
   start = (kept_at p m places w m q refl (record { words = λ r. refl; federation = refl; same = refl; time = refl }) (record {
     letters = letters;
     others = λ i r other at. (w.client.each i r at).letters;
@@ -225,7 +231,7 @@ module _ (p : P) (fresh : is_new p.client.request ≡ true) (few : length (start
   })).client
 
   -- the same world, in which the federate has this place
-  pub started_world : World lbts_rule (record p { client = started p.own.number p.client }) m (slice_set places p.own.number (record p { client = started p.own.number p.client }))
+  pub started_world : World lbts_rule (record p { client = view_after_start p.own.number p.client }) m (slice_set places p.own.number (record p { client = view_after_start p.own.number p.client }))
   started_world = record {
     floor = floor_still p.own.buffers m places me p q w.here refl w.floor;
     client = start;

@@ -6,12 +6,12 @@ use lib.ListN.{get_elem?}
 use Rattle.kit_ground.specs.declared.place.Place.{Place}
 use Rattle.kit_ground.proofs.Lists.{at_inside}
 use Rattle.kit_rounds.specs.Ledgers.{Ledger, nothing, at_round}
-use Rattle.kit_rounds.specs.Rounds.{HasContributed, result_of, HasEnded}
+use Rattle.kit_rounds.specs.Rounds.{HasContributed, result_of, EndsRun}
 use Rattle.kit_rounds.specs.Rule.{IsBound}
 use Rattle.kit_rounds.proofs.Opening.{equal_sums_bound}
 use Rattle.kit_lbts.specs.declared.view.LbtsView.{LbtsView}
 use Rattle.kit_lbts.specs.Promises.{ledgers_of}
-use Rattle.kit_lbts.specs.Reduction.{sources, gathered}
+use Rattle.kit_lbts.specs.Reduction.{sources, share_with_taken}
 use Rattle.kit_lbts.specs.Registers.{shares_at, Learnt}
 use Rattle.kit_lbts.specs.Progress.{own_share}
 use Rattle.kit_lbts.specs.Rule.{RoundsHold}
@@ -52,15 +52,15 @@ module _ (places : List (Place LbtsView)) (j : ℕ) (p : Place LbtsView) (at : g
     values : AreValues p.client.scheme n j (shares_at ledgers k) p.client.taken
     values = record { few = learnt.few; each = λ l lt. (learnt.taken l lt).is }
 
-    pub result_is : gathered p.client.scheme n j (own_share p.client) p.client.taken ≡ result_of n ledgers k
-    result_is = ap (λ own. gathered p.client.scheme n j own p.client.taken) own_is ∙ all_is_result p.client.scheme n j (shares_at ledgers k) p.client.taken j_in few values all
+    pub result_is : share_with_taken p.client.scheme n j (own_share p.client) p.client.taken ≡ result_of n ledgers k
+    result_is = ap (λ own. share_with_taken p.client.scheme n j own p.client.taken) own_is ∙ all_is_result p.client.scheme n j (shares_at ledgers k) p.client.taken j_in few values all
 
-    pub bound_is : HasEnded n ledgers k → IsBound n ledgers (result_of n ledgers k).low
+    pub bound_is : EndsRun n ledgers k → IsBound n ledgers (result_of n ledgers k).low
     bound_is ended = elim (cases_lt k rounds.0) [
       | inl less ↦ rounds.1.bound k less ended
       | inr ge ↦
           let same : k ≡ rounds.0 = elim (rounds.1.rounds.counted j j_in) [ inl e ↦ omega (arith, e, everybody_did j j_in, ge) | inr e ↦ omega (arith, e, everybody_did j j_in, ge) ] in
-          subst (λ d. ((i : ℕ) → i < n → HasContributed (ledgers i) d) → HasEnded n ledgers d → IsBound n ledgers (result_of n ledgers d).low) (sym same)
+          subst (λ d. ((i : ℕ) → i < n → HasContributed (ledgers i) d) → EndsRun n ledgers d → IsBound n ledgers (result_of n ledgers d).low) (sym same)
           (equal_sums_bound n rounds.0 ledgers rounds.1) everybody_did ended
     ]
 

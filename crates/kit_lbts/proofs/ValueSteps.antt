@@ -21,11 +21,11 @@ use Rattle.kit_rounds.specs.Ledgers.{Ledger}
 use Rattle.kit_lbts.specs.declared.view.LbtsView.{LbtsView}
 use Rattle.kit_lbts.specs.Promises.{ledgers_of, result_at}
 use Rattle.kit_lbts.specs.Reduction.{back_stage, clock_of, needed, published_share, publishes, reg_of, share_stage}
-use Rattle.kit_lbts.specs.Registers.{IsKnown, IsPlace, IsShown, Registers, word_at}
-use Rattle.kit_lbts.specs.Progress.{closed, contributed, granted, own_share, progressed}
+use Rattle.kit_lbts.specs.Registers.{IsKnown, IsPlace, ShowsRound, Registers, word_at}
+use Rattle.kit_lbts.specs.Progress.{view_after_close, view_after_contribution, view_after_grant, own_share, view_after}
 use Rattle.kit_lbts.specs.LedgerLaws.{ready_place}
 use Rattle.kit_lbts.specs.Letters.{Letters}
-use Rattle.kit_lbts.specs.Rule.{LbtsRule, Seated, lbts_rule}
+use Rattle.kit_lbts.specs.Rule.{LbtsRule, FederateRule, lbts_rule}
 use Rattle.kit_lbts.specs.PublishLaws.{BacksKeep, ValuesKeep}
 use Rattle.kit_lbts.specs.Ways.{Way, marked}
 use Rattle.kit_lbts.proofs.Changes.{ChangedAt, still}
@@ -43,6 +43,7 @@ P = Place LbtsView
 
 -- a place of its last round is published that the federate knows
 module _ (p : P) (m : Memory) (places : List P) (w : World lbts_rule p m places) (stage k : ℕ) (share : Share) (there : stage < 6) (apart : stage ≢ 4)
+    (does : publishes p.client.scheme (length places) p.own.number stage ≡ true)
     (level : length p.client.contributions ≡ k + 1) (known : IsKnown (length places) (ledgers_of places) p.own.number stage k share) where
   abbrev me : ℕ
   me = p.own.number
@@ -71,7 +72,7 @@ module _ (p : P) (m : Memory) (places : List P) (w : World lbts_rule p m places)
   abbrev after : ℕ → Ledger
   after = ledgers_of (slice_set places p.own.number q)
 
-  mine : Seated m places p.own.number p
+  mine : FederateRule m places p.own.number p
   mine = w.client.each me p w.here
 
   inside : p.own.number < length places
@@ -83,25 +84,28 @@ module _ (p : P) (m : Memory) (places : List P) (w : World lbts_rule p m places)
   same_word : (s round : ℕ) → round % 2 * 6 + s ≢ c % 2 * 6 + stage → word_at now me s round ≡ word_at m me s round
   same_word s round other = register_else m r (reg_of me s round) word (λ _. other)
 
-  shown_new : IsShown n after me stage c (word_at now me stage c)
+  shown_new : ShowsRound n after me stage c (word_at now me stage c)
   shown_new =
       let next : suc k ≡ c = omega (arith, level) in
-      let first : IsShown n after me stage (suc k) (share_word share (suc k)) = (share, refl, known_on n ledgers after last me stage k share known) in
+      let first : ShowsRound n after me stage (suc k) (share_word share (suc k)) = (share, refl, known_on n ledgers after last me stage k share known) in
       shown_as n after me stage (suc k) c (share_word share (suc k)) (word_at now me stage c) next (ap (share_word share) next ∙ sym (stored_here m (Register r) word)) first
 
   registers : Registers now n after p.own.number q
   registers = record {
     now = λ s lt does. dite (ℕ_discrete s stage)
-        (λ same. inl (subst (λ (x : ℕ). IsShown n after me x c (word_at now me x c)) (sym same) shown_new))
+        (λ same. inl (subst (λ (x : ℕ). ShowsRound n after me x c (word_at now me x c)) (sym same) shown_new))
         (λ other.
         let word_is = sym (same_word s c (λ e. other (omega (arith, e)))) in
         ⊎_elim
-        (λ (h : IsShown n ledgers me s c (word_at m me s c)). inl (subst (IsShown n after me s c) word_is (shown_on n ledgers after last me s c (word_at m me s c) h)))
-        (λ (h : IsShown n ledgers me s (c - 2) (word_at m me s c)). inr (subst (IsShown n after me s (c - 2)) word_is (shown_on n ledgers after last me s (c - 2) (word_at m me s c) h)))
+        (λ (h : ShowsRound n ledgers me s c (word_at m me s c)). inl (subst (ShowsRound n after me s c) word_is (shown_on n ledgers after last me s c (word_at m me s c) h)))
+        (λ (h : ShowsRound n ledgers me s (c - 2) (word_at m me s c)). inr (subst (ShowsRound n after me s (c - 2)) word_is (shown_on n ledgers after last me s (c - 2) (word_at m me s c) h)))
         (mine.registers.now s lt does));
     before = λ s lt does.
-        subst (IsShown n after me s (c - 1)) (sym (same_word s (c + 1) (λ e. omega (arith, e, lt, there))))
+        subst (ShowsRound n after me s (c - 1)) (sym (same_word s (c + 1) (λ e. omega (arith, e, lt, there))))
         (shown_on n ledgers after last me s (c - 1) (word_at m me s (c + 1)) (mine.registers.before s lt does));
+    unused = λ s round lt none.
+        same_word s round (λ e. let same : stage ≡ s = omega (arith, e, lt, there) in true≢false (sym does ∙ (ap (publishes p.client.scheme n me) same ∙ none)))
+        ∙ mine.registers.unused s round lt none;
     clock = register_else m r (clock_of me) word (λ _ e. omega (arith, e, there)) ∙ mine.registers.clock;
     lows = mine.registers.lows;
   }
@@ -124,7 +128,7 @@ module _ (p : P) (m : Memory) (places : List P) (w : World lbts_rule p m places)
     queue = let old = mine.queue in record { ordered = old.ordered; apart = old.apart; is = old.is; ahead = old.ahead; settled = old.settled };
     heard = mine.heard;
     granting = let old = mine.granting in record { lawful = old.lawful; below = old.below; within = old.within; wish = old.wish; asked = old.asked };
-    sends = let old = mine.sends in record { own = old.own; numbered = old.numbered; next = old.next; timed = old.timed; takes_back = old.takes_back; waiting = old.waiting; late = old.late; transported = old.transported; each = old.each; receivers = old.receivers; few = old.few; new = old.new };
+    sends = let old = mine.sends in record { own = old.own; numbered = old.numbered; next = old.next; timed = old.timed; takes_back = old.takes_back; waiting = old.waiting; late = old.late; transported = old.transported; behind = old.behind; once = old.once; each = old.each; receivers = old.receivers; coloured = old.coloured; few = old.few; new = old.new };
     ways = λ i j x s ti tj.
         let b = still (λ (y : P). y.own.buffers) places me p q refl i x ti in
         subst (λ (y : ℕ). Way y (marked now i j) i j x.client s.client) (sym b)
@@ -145,12 +149,12 @@ module _ (p : P) (m : Memory) (places : List P) (w : World lbts_rule p m places)
   }) changed
 
   -- the first stage closes a round of one federate
-  by_first : (b : Bool) → LbtsRule now (slice_set places p.own.number (record q { client = cond b (closed p.own.federates p.own.number p.client) p.client }))
+  by_first : (b : Bool) → LbtsRule now (slice_set places p.own.number (record q { client = cond b (view_after_close p.own.federates p.own.number p.client) p.client }))
   by_first false = rule_after
   by_first true =
       let then : List P = slice_set places me q in
       let long : length then ≡ n = length-set places me q in
-      subst (LbtsRule now) (set-set places me q (record q { client = closed p.own.federates p.own.number q.client }))
+      subst (LbtsRule now) (set-set places me q (record q { client = view_after_close p.own.federates p.own.number q.client }))
       (closed_keeps now then me q (set_here places me q inside) rule_after (omega (arith, long, w.floor.few)) ((w.floor.each me p w.here).federates ∙ sym long))
 
   is_value : (u g x y : LbtsView) (a b : Bool) → a ≡ false → b ≡ false → cond a u (cond b g (cond (r.slot % 6 == 0) x y)) ≡ cond (r.slot % 6 == 0) x y
@@ -159,9 +163,9 @@ module _ (p : P) (m : Memory) (places : List P) (w : World lbts_rule p m places)
   is_value u g x y false false clock own = refl
 
   pub publish : let r = reg_of p.own.number stage (length p.client.contributions) in
-      let word = share_word share (length p.client.contributions) in LbtsRule (with_word m (Register r) word) (slice_set places p.own.number (place_after progressed (Published r word) p))
+      let word = share_word share (length p.client.contributions) in LbtsRule (with_word m (Register r) word) (slice_set places p.own.number (place_after view_after (Published r word) p))
   publish = subst (λ (u : LbtsView). LbtsRule now (slice_set places me (record { own = own_after (Published r word) p.own; client = u })))
-      (sym (is_value (granted me word p.client) (contributed (ready_place p)) (closed p.own.federates me p.client) p.client (r.slot == 12) (r.slot % 6 == share_stage)
+      (sym (is_value (view_after_grant me word p.client) (view_after_contribution (ready_place p)) (view_after_close p.own.federates me p.client) p.client (r.slot == 12) (r.slot % 6 == share_stage)
       (ne_eqb r.slot 12 (λ e. omega (arith, e, there))) (ne_eqb (r.slot % 6) share_stage (λ e. apart (omega (arith, e, there))))))
       (by_first (r.slot % 6 == 0))
 
@@ -175,7 +179,7 @@ values_keep p stage early does under has m places w = record {
       → IsKnown (length places) (ledgers_of places) p.own.number stage (length p.client.results) (published_share p.client.scheme n p.own.number (own_share p.client) p.client.taken stage))
       (sym many) (λ d h. stage_known places p.own.number p w.here w.floor.few mine.learnt way stage early d h (value_fits p m places w)) does has in
       publish p m places w stage (length p.client.results) (published_share p.client.scheme p.own.federates p.own.number (own_share p.client) p.client.taken stage)
-      (omega (arith, early)) (λ e. omega (arith, e, early)) way known;
+      (omega (arith, early)) (λ e. omega (arith, e, early)) (subst (λ (n : ℕ). publishes p.client.scheme n p.own.number stage ≡ true) many does) way known;
   guests = λ g sees. tt;
 }
 
@@ -186,7 +190,8 @@ backs_keep p does level some_done m places w = record {
       let k : ℕ = length p.client.results - 1 in
       let result = mine.learnt.results k (omega (arith, some_done)) in
       let place : IsPlace (length places) p.own.number back_stage = record { there = at_inside places p.own.number p w.here; known = omega arith; inside = λ lt. absurd (omega (arith, lt)) } in
-      publish p m places w back_stage k (result_at p.client k) (omega arith) (λ e. omega (arith, e)) (omega (arith, level, some_done)) (record {
+      publish p m places w back_stage k (result_at p.client k) (omega arith) (λ e. omega (arith, e))
+      (subst (λ (n : ℕ). publishes p.client.scheme n p.own.number back_stage ≡ true) (w.floor.each p.own.number p w.here).federates does) (omega (arith, level, some_done)) (record {
         place = place;
         fits = subst FitsWord (sym result.0) (value_fits p m places w p.own.number back_stage k place (λ i lt takes. result.1 i lt));
         is = result.0;

@@ -15,14 +15,14 @@ use Rattle.kit_lbts.specs.declared.view.InHand.{InHand}
 use Rattle.kit_lbts.specs.declared.view.LbtsView.{LbtsView}
 use Rattle.kit_lbts.specs.Views.{receipts, is_in_hand}
 use Rattle.kit_lbts.specs.Letters.{letter_in}
-use Rattle.kit_lbts.specs.Ways.{Way, posted_to, received_from, copies_on_way, passing_copies}
+use Rattle.kit_lbts.specs.Ways.{Way, letters_posted_to, letters_received_from, copies_on_way, passing_copies}
 
 -- what a channel reads of its sender, and of its receiver
 abbrev pub Sent : Type 0
 Sent = List Filled × (ℕ → Filled)
 
 abbrev pub sent : ℕ → LbtsView → Sent
-sent j v = (posted_to j v, letter_in v)
+sent j v = (letters_posted_to j v, letter_in v)
 
 abbrev pub Got : Type 0
 Got = List Filled × List InHand × List Entry
@@ -44,7 +44,7 @@ pub way_still : (b : ℕ) (mail now : ℕ → ℕ) (i j : ℕ) (v u v' u' : Lbts
     → Way b mail i j v u → Way b now i j v' u'
 way_still b mail now i j v u v' u' bits s g h = record {
   copies = subst (λ (x : Sent × Got). Copies b now i x.0 x.1) (λ t. (sym s t, sym g t))
-      (λ t. h.copies t ∙ ap (λ (x : ℕ). count_by t (received_from i u) + x)
+      (λ t. h.copies t ∙ ap (λ (x : ℕ). count_by t (letters_received_from i u) + x)
       (sum_same (λ k. cond (t (letter_in v k)) (copies_on_way mail i u.in_hand k) 0) (λ k. cond (t (letter_in v k)) (copies_on_way now i u.in_hand k) 0) b
       (λ k lk. ap (λ (x : ℕ). cond (t (letter_in v k)) (x + count_by (is_in_hand i k) u.in_hand) 0) (sym (bits k lk)))));
   heads = subst (λ (x : Sent × Got). Heads i x.0 x.1) (λ t. (sym s t, sym g t)) h.heads;
@@ -57,13 +57,13 @@ if_some None A B h a = tt
 if_some (Some x) A B h a = h x refl a
 
 -- the letters of buffers that are not on their way may change
-pub way_relettered : (b : ℕ) (mail : ℕ → ℕ) (i j : ℕ) (v u v' : LbtsView) → posted_to j v' ≡ posted_to j v
+pub way_relettered : (b : ℕ) (mail : ℕ → ℕ) (i j : ℕ) (v u v' : LbtsView) → letters_posted_to j v' ≡ letters_posted_to j v
     → ((k : ℕ) → k < b → (letter_in v' k ≡ letter_in v k) ⊎ (copies_on_way mail i u.in_hand k ≡ 0))
     → All (λ (h : InHand). h.from ≡ i → letter_in v' h.buffer ≡ letter_in v h.buffer) u.in_hand
     → All (λ (e : Entry). e.message.sender ≡ i → (k : ℕ) → e.buffer ≡ Some k → letter_in v' k ≡ letter_in v k) u.queue
     → Way b mail i j v u → Way b mail i j v' u
 way_relettered b mail i j v u v' posts letters hands waits h = record {
-  copies = λ t. ap (count_by t) posts ∙ (h.copies t ∙ ap (λ (x : ℕ). count_by t (received_from i u) + x)
+  copies = λ t. ap (count_by t) posts ∙ (h.copies t ∙ ap (λ (x : ℕ). count_by t (letters_received_from i u) + x)
       (sum_same (λ k. cond (t (letter_in v k)) (copies_on_way mail i u.in_hand k) 0) (λ k. cond (t (letter_in v' k)) (copies_on_way mail i u.in_hand k) 0) b
       (λ k lk. ⊎_elim
       (λ (same : letter_in v' k ≡ letter_in v k). ap (λ (f : Filled). cond (t f) (copies_on_way mail i u.in_hand k) 0) (sym same))
@@ -86,7 +86,7 @@ way_relettered b mail i j v u v' posts letters hands waits h = record {
 
 -- a copy was posted: the letter of the buffer k, which was not on its way, and is now marked in the mail
 pub way_posted : (b : ℕ) (mail now : ℕ → ℕ) (i j : ℕ) (v u v' : LbtsView) (k : ℕ) → k < b
-    → posted_to j v' ≡ posted_to j v ++ letter_in v k ∷ [] → letter_in v' ≡ letter_in v
+    → letters_posted_to j v' ≡ letters_posted_to j v ++ letter_in v k ∷ [] → letter_in v' ≡ letter_in v
     → copies_on_way mail i u.in_hand k ≡ 0 → now k ≡ 1 → ((x : ℕ) → x < b → x ≢ k → now x ≡ mail x)
     → Way b mail i j v u → Way b now i j v' u
 way_posted b mail now i j v u v' k lk posts letters off here others h = record {
@@ -98,10 +98,10 @@ way_posted b mail now i j v u v' k lk posts letters off here others h = record {
       let one : copies_on_way now i u.in_hand k ≡ 1 = one_more (mail k) (count_by (is_in_hand i k) u.in_hand) (now k) off here in
       let none : before k ≡ 0 = nothing_of (t (letter_in v k)) (copies_on_way mail i u.in_hand k) off in
       let more : after k ≡ one_if (t (letter_in v k)) = ap (λ (y : ℕ). cond (t (letter_in v k)) y 0) one in
-      let old : count_by t (posted_to j v) ≡ count_by t (received_from i u) + sum_to before b = h.copies t in
-      let pushed : count_by t (posted_to j v') ≡ count_by t (posted_to j v) + one_if (t (letter_in v k)) = ap (count_by t) posts ∙ count_last t (posted_to j v) (letter_in v k) in
-      let new : count_by t (posted_to j v') ≡ count_by t (received_from i u) + sum_to after b = omega arith in
-      subst (λ (l : ℕ → Filled). count_by t (posted_to j v') ≡ count_by t (received_from i u) + passing_copies t l (copies_on_way now i u.in_hand) b) (sym letters) new;
+      let old : count_by t (letters_posted_to j v) ≡ count_by t (letters_received_from i u) + sum_to before b = h.copies t in
+      let pushed : count_by t (letters_posted_to j v') ≡ count_by t (letters_posted_to j v) + one_if (t (letter_in v k)) = ap (count_by t) posts ∙ count_last t (letters_posted_to j v) (letter_in v k) in
+      let new : count_by t (letters_posted_to j v') ≡ count_by t (letters_received_from i u) + sum_to after b = omega arith in
+      subst (λ (l : ℕ → Filled). count_by t (letters_posted_to j v') ≡ count_by t (letters_received_from i u) + passing_copies t l (copies_on_way now i u.in_hand) b) (sym letters) new;
   heads = subst (λ (l : ℕ → Filled). Heads i ([], l) (got u)) (sym letters) h.heads;
   lies = subst (λ (l : ℕ → Filled). Lies i ([], l) (got u)) (sym letters) h.lies;
 }
@@ -132,7 +132,7 @@ pub way_headed : (b : ℕ) (mail : ℕ → ℕ) (i j : ℕ) (v u : LbtsView) (a 
     → (i ≡ a → word ≡ head_word (letter_in v c).message (letter_in v c).colour)
     → Way b mail i j v u → Way b mail i j v (record u { in_hand = map (headed a c word) u.in_hand })
 way_headed b mail i j v u a c word is h = record {
-  copies = λ t. h.copies t ∙ ap (λ (x : ℕ). count_by t (received_from i u) + x)
+  copies = λ t. h.copies t ∙ ap (λ (x : ℕ). count_by t (letters_received_from i u) + x)
       (sum_same (λ k. cond (t (letter_in v k)) (copies_on_way mail i u.in_hand k) 0) (λ k. cond (t (letter_in v k)) (copies_on_way mail i (map (headed a c word) u.in_hand) k) 0) b
       (λ k lk. ap (λ (x : ℕ). cond (t (letter_in v k)) (mail k + x) 0) (sym (count_headed a c word i k u.in_hand))));
   heads = All-map (Head i v) (headed a c word) u.in_hand (All-weaker (Head i v) (λ (x : InHand). Head i v (headed a c word x)) (λ x old. one x (is_in_hand a c x) refl old) u.in_hand h.heads);
@@ -147,7 +147,7 @@ way_headed b mail i j v u a c word is h = record {
 pub way_collected : (b : ℕ) (mail now : ℕ → ℕ) (i j : ℕ) (v u : LbtsView) (new : List InHand) → ((k : ℕ) → k < b → now k + count_by (is_in_hand i k) new ≡ mail k)
     → All (λ (h : InHand). h.head ≡ None) new → Way b mail i j v u → Way b now i j v (record u { in_hand = u.in_hand ++ new })
 way_collected b mail now i j v u new same unread h = record {
-  copies = λ t. h.copies t ∙ ap (λ (x : ℕ). count_by t (received_from i u) + x)
+  copies = λ t. h.copies t ∙ ap (λ (x : ℕ). count_by t (letters_received_from i u) + x)
       (sum_same (λ k. cond (t (letter_in v k)) (copies_on_way mail i u.in_hand k) 0) (λ k. cond (t (letter_in v k)) (copies_on_way now i (u.in_hand ++ new) k) 0) b
       (λ k lk. ap (λ (x : ℕ). cond (t (letter_in v k)) x 0)
       (moved (mail k) (now k) (count_by (is_in_hand i k) u.in_hand) (count_by (is_in_hand i k) new) (count_by (is_in_hand i k) (u.in_hand ++ new)) (same k lk) (count_append (is_in_hand i k) u.in_hand new))));
@@ -173,13 +173,13 @@ way_received b mail i j v u u' k lk more from hands one lies h = record {
       let gone : copies_on_way mail i hands' k ≡ mail k + 0 = ap (λ (y : ℕ). mail k + y) (count_gone (is_in_hand i k) u.in_hand) in
       let there : copies_on_way mail i u.in_hand k ≡ mail k + 1 = ap (λ (y : ℕ). mail k + y) one in
       let less : before k ≡ after k + one_if (t (letter_in v k)) = step (t (letter_in v k)) (copies_on_way mail i u.in_hand k) (copies_on_way mail i hands' k) (mail k) there gone in
-      let old : count_by t (posted_to j v) ≡ count_by t (received_from i u) + sum_to before b = h.copies t in
-      let pushed : count_by t (received_from i u') ≡ count_by t (received_from i u) + one_if (t (letter_in v k)) =
+      let old : count_by t (letters_posted_to j v) ≡ count_by t (letters_received_from i u) + sum_to before b = h.copies t in
+      let pushed : count_by t (letters_received_from i u') ≡ count_by t (letters_received_from i u) + one_if (t (letter_in v k)) =
       ap (λ (rs : List Filled). count_by t (filter (λ (f : Filled). f.message.sender == i) rs)) more
-      ∙ (ap (count_by t) (filter-append (λ (f : Filled). f.message.sender == i) (receipts u) (letter_in v k ∷ []) ∙ ap (λ (c : Bool). received_from i u ++ cond c (letter_in v k ∷ []) []) (eq-eqb (letter_in v k).message.sender i from))
-      ∙ count_last t (received_from i u) (letter_in v k)) in
-      let new : count_by t (posted_to j v) ≡ count_by t (received_from i u') + sum_to after b = omega arith in
-      subst (λ (hs : List InHand). count_by t (posted_to j v) ≡ count_by t (received_from i u') + passing_copies t (letter_in v) (copies_on_way mail i hs) b) (sym hands) new;
+      ∙ (ap (count_by t) (filter-append (λ (f : Filled). f.message.sender == i) (receipts u) (letter_in v k ∷ []) ∙ ap (λ (c : Bool). letters_received_from i u ++ cond c (letter_in v k ∷ []) []) (eq-eqb (letter_in v k).message.sender i from))
+      ∙ count_last t (letters_received_from i u) (letter_in v k)) in
+      let new : count_by t (letters_posted_to j v) ≡ count_by t (letters_received_from i u') + sum_to after b = omega arith in
+      subst (λ (hs : List InHand). count_by t (letters_posted_to j v) ≡ count_by t (letters_received_from i u') + passing_copies t (letter_in v) (copies_on_way mail i hs) b) (sym hands) new;
   heads = subst (All (Head i v)) (sym hands) (All-filter (λ h. not (is_in_hand i k h)) (Head i v) u.in_hand h.heads);
   lies = lies;
 }
@@ -196,14 +196,14 @@ pub way_received_else : (b : ℕ) (mail : ℕ → ℕ) (i j : ℕ) (v u u' : Lbt
 way_received_else b mail i j v u u' a k f other more from hands lies h = record {
   copies = λ t.
       let hands' : List InHand = filter (λ h. not (is_in_hand a k h)) u.in_hand in
-      let same : received_from i u' ≡ received_from i u =
+      let same : letters_received_from i u' ≡ letters_received_from i u =
       ap (filter (λ (f : Filled). f.message.sender == i)) more
-      ∙ (filter-append (λ (f : Filled). f.message.sender == i) (receipts u) (f ∷ []) ∙ (ap (λ (c : Bool). received_from i u ++ cond c (f ∷ []) []) (ne_eqb f.message.sender i (λ e. other (sym e ∙ from))) ∙ append-nil (received_from i u))) in
+      ∙ (filter-append (λ (f : Filled). f.message.sender == i) (receipts u) (f ∷ []) ∙ (ap (λ (c : Bool). letters_received_from i u ++ cond c (f ∷ []) []) (ne_eqb f.message.sender i (λ e. other (sym e ∙ from))) ∙ append-nil (letters_received_from i u))) in
       let sums : passing_copies t (letter_in v) (copies_on_way mail i u.in_hand) b ≡ passing_copies t (letter_in v) (copies_on_way mail i hands') b =
       sum_same (λ x. cond (t (letter_in v x)) (copies_on_way mail i u.in_hand x) 0) (λ x. cond (t (letter_in v x)) (copies_on_way mail i hands' x) 0) b
       (λ x lx. ap (λ (y : ℕ). cond (t (letter_in v x)) (mail x + y) 0) (sym (count_without (is_in_hand a k) (is_in_hand i x) u.in_hand (hand_else a k i x (λ e _. other e))))) in
-      let new : count_by t (posted_to j v) ≡ count_by t (received_from i u') + passing_copies t (letter_in v) (copies_on_way mail i hands') b = h.copies t ∙ (λ x. count_by t (sym same x) + sums x) in
-      subst (λ (hs : List InHand). count_by t (posted_to j v) ≡ count_by t (received_from i u') + passing_copies t (letter_in v) (copies_on_way mail i hs) b) (sym hands) new;
+      let new : count_by t (letters_posted_to j v) ≡ count_by t (letters_received_from i u') + passing_copies t (letter_in v) (copies_on_way mail i hands') b = h.copies t ∙ (λ x. count_by t (sym same x) + sums x) in
+      subst (λ (hs : List InHand). count_by t (letters_posted_to j v) ≡ count_by t (letters_received_from i u') + passing_copies t (letter_in v) (copies_on_way mail i hs) b) (sym hands) new;
   heads = subst (All (Head i v)) (sym hands) (All-filter (λ h. not (is_in_hand a k h)) (Head i v) u.in_hand h.heads);
   lies = lies;
 }

@@ -16,7 +16,7 @@ use Rattle.kit_lbts.proofs.BodyKinds.{bodies_keep, bodies_tell}
 use Rattle.kit_lbts.proofs.ChargeSteps.{charges_keep}
 use Rattle.kit_lbts.proofs.CollectSteps.{collects_keep}
 use Rattle.kit_lbts.proofs.ContributionSteps.{contributions_keep}
-use Rattle.kit_lbts.proofs.GrantAgreement.{without}
+use Rattle.kit_lbts.proofs.GrantAgreement.{without_agreement}
 use Rattle.kit_lbts.proofs.HeadSteps.{heads_keep}
 use Rattle.kit_lbts.proofs.IdleSteps.{count_looks_keep, stop_looks_keep, stops_keep, writes_keep}
 use Rattle.kit_lbts.proofs.LookSteps.{looks_keep}
@@ -54,7 +54,7 @@ pub count_looks_agree : CountLooksKeep agreeing_rule
 count_looks_agree p k lk = others_agree p (Count p.own.number k) (λ count. SawFree k (count == 0)) (λ _. tt) (count_looks_keep p k lk)
 
 pub settles_told : SettlesTell agreeing_rule
-settles_told p below i k le first m places w = settles_tell p below i k le first m places (without p m places w)
+settles_told p below i k le first m places w = settles_tell p below i k le first m places (without_agreement p m places w)
 
 pub looks_agree : LooksKeep agreeing_rule
 looks_agree p r = others_agree p (Register r) (λ word. Looked r word) (λ _. tt) (looks_keep p r)

@@ -11,7 +11,7 @@ use Rattle.kit_ground.specs.Memory.{Memory}
 use Rattle.kit_ground.specs.Rules as rules
 use Rattle.kit_model.specs.declared.journal.JournalEntry.{JournalEntry}
 use Rattle.kit_model.specs.declared.journal.JournalEntry.TheVariants.{Received, Delivered, Granted}
-use Rattle.kit_parts.specs.Fronts.{IsFront, Progress, seat_after}
+use Rattle.kit_parts.specs.Fronts.{IsFront, Standing, seat_after}
 use Rattle.kit_rules.specs.declared.table.Request.{Request}
 use Rattle.kit_rules.specs.Parts.{federate_at}
 use Rattle.kit_rules.specs.Simulation.{Block, Seat, block, lines_of}
@@ -35,11 +35,11 @@ abbrev pub blocks_in : ℕ → LbtsView → List Block
 blocks_in j v = blocks_from j [] (entries_of v)
 
 -- the lines that a journal has for its deliveries and grants
-abbrev pub lines_in : ℕ → List JournalEntry → List Line
-lines_in j [] = []
-lines_in j (Received m ∷ es) = lines_in j es
-lines_in j (Delivered granted m ∷ es) = line.Deliver granted j m ∷ lines_in j es
-lines_in j (Granted t ∷ es) = line.Grant t j ∷ lines_in j es
+abbrev pub lines_of_journal : ℕ → List JournalEntry → List Line
+lines_of_journal j [] = []
+lines_of_journal j (Received m ∷ es) = lines_of_journal j es
+lines_of_journal j (Delivered granted m ∷ es) = line.Deliver granted j m ∷ lines_of_journal j es
+lines_of_journal j (Granted t ∷ es) = line.Grant t j ∷ lines_of_journal j es
 
 -- what the federate has come to, as in the simulation
 abbrev pub seat_of : Request → LbtsView → Seat
@@ -49,7 +49,7 @@ seat_of r v = record { now = time_of v; request = r; state = v.state; got = deli
 -- to what the start's rules and these blocks lead to
 pub record Agrees (j : ℕ) (v : LbtsView) : Type 0 where
   pub new : v.request ≡ None → v.state ≡ opening_state (federate_at v.federation j)
-  pub whole : lines_in j (entries_of v) ≡ lines_of (blocks_in j v)
+  pub whole : lines_of_journal j (entries_of v) ≡ lines_of (blocks_in j v)
   pub front : IsFront v.federation j (blocks_in j v)
   pub seat : (r : Request) → v.request ≡ Some r → seat_after v.federation j (blocks_in j v) ≡ seat_of r v
 
@@ -71,7 +71,7 @@ abbrev pub done_of : Option Request → List Block → Option (List Block)
 done_of None done = None
 done_of (Some r) done = Some done
 
-abbrev pub progress_of : ℕ → LbtsView → Progress
+abbrev pub progress_of : ℕ → LbtsView → Standing
 progress_of j v = record { done = done_of v.request (blocks_in j v); waits = not (is_empty v.outbox); received = received v }
 
 -- the messages of b buffers with these letters, each as often as copies of it are on their way
@@ -83,7 +83,7 @@ messages_on_way letter copies (suc b) = messages_on_way letter copies b ++ repli
 abbrev pub place_at : Place LbtsView → List (Place LbtsView) → ℕ → Place LbtsView
 place_at p places j = slice_index_or places j p
 
-abbrev pub progress_at : Place LbtsView → List (Place LbtsView) → ℕ → Progress
+abbrev pub progress_at : Place LbtsView → List (Place LbtsView) → ℕ → Standing
 progress_at p places j = progress_of j (place_at p places j).client
 
 -- what j posted to i, and i has not received

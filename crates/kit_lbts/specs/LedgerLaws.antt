@@ -14,11 +14,11 @@ use Rattle.kit_lbts.specs.Views.{time_of, due_of, is_waiting}
 use Rattle.kit_lbts.specs.Promises.{added_of, next_run, ledger_of, copy_posted, next_contribution}
 use Rattle.kit_lbts.specs.Letters.{letter_in}
 use Rattle.kit_lbts.specs.Reduction.{share_stage}
-use Rattle.kit_lbts.specs.Progress.{head_in, message_in, ready, progressed}
+use Rattle.kit_lbts.specs.Progress.{head_in, message_in, view_when_ready, view_after}
 
 -- the place after a deed
 abbrev pub after : Deed → Place LbtsView → Place LbtsView
-after deed p = place_after progressed deed p
+after deed p = place_after view_after deed p
 
 -- the deeds that leave a ledger as it is
 abbrev pub IsAside : Deed → Type 0
@@ -57,7 +57,7 @@ ReceiptsAre = (p : Place LbtsView) (i k body : ℕ) → Receives i (stamp_read p
 
 -- to collect mail is a rise: the start's rules run, where they had not
 abbrev pub CollectsAre : Type 0
-CollectsAre = (p : Place LbtsView) (i word mail : ℕ) → time_of p.client ≤ due_of (ready p.own.number p.client)
+CollectsAre = (p : Place LbtsView) (i word mail : ℕ) → time_of p.client ≤ due_of (view_when_ready p.own.number p.client)
     → Rises (ledger_of p) (ledger_of (after (Collected i word mail) p))
 
 -- a grant of the due time is a rise, where nothing is to be posted and the next due time is no earlier
@@ -68,11 +68,11 @@ GrantsAre = (p : Place LbtsView) → is_waiting p.client ≡ false → time_of p
 
 -- the place of a federate whose start's rules have run
 abbrev pub ready_place : Place LbtsView → Place LbtsView
-ready_place p = record p { client = ready p.own.number p.client }
+ready_place p = record p { client = view_when_ready p.own.number p.client }
 
 -- to be ready is a rise
 abbrev pub ReadyIs : Type 0
-ReadyIs = (p : Place LbtsView) → time_of p.client ≤ due_of (ready p.own.number p.client) → Rises (ledger_of p) (ledger_of (ready_place p))
+ReadyIs = (p : Place LbtsView) → time_of p.client ≤ due_of (view_when_ready p.own.number p.client) → Rises (ledger_of p) (ledger_of (ready_place p))
 
 -- to publish the own share is a contribution of one who is ready
 abbrev pub ContributionsAre : Type 0

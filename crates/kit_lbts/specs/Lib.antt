@@ -17,3 +17,5 @@ pub mod Openings
 pub mod PublishLaws
 pub mod Agreement
 pub mod AgreementLaws
+pub mod WorldLaws
+pub mod SeatLaws

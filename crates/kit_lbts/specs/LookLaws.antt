@@ -5,11 +5,11 @@ use lib.ListN.{get_elem?}
 use Rattle.kit_ground.specs.declared.place.Place.{Place}
 use Rattle.kit_ground.specs.Memory.{Memory}
 use Rattle.kit_model.specs.Shares.{share_of}
-use Rattle.kit_rounds.specs.Rounds.{HasContributed, result_of, HasEnded}
+use Rattle.kit_rounds.specs.Rounds.{HasContributed, result_of, EndsRun}
 use Rattle.kit_rounds.specs.Rule.{IsBound}
 use Rattle.kit_lbts.specs.declared.view.LbtsView.{LbtsView}
 use Rattle.kit_lbts.specs.Promises.{ledgers_of}
-use Rattle.kit_lbts.specs.Reduction.{sources, source, gathered}
+use Rattle.kit_lbts.specs.Reduction.{sources, source, share_with_taken}
 use Rattle.kit_lbts.specs.Registers.{word_at, IsKnown, Registers, Learnt}
 use Rattle.kit_lbts.specs.Progress.{own_share}
 use Rattle.kit_lbts.specs.Rule.{Common, RoundsHold}
@@ -37,6 +37,6 @@ abbrev pub AllTaughtIsResult : Type 0
 AllTaughtIsResult = (places : List (Place LbtsView)) (j : ℕ) (p : Place LbtsView) → get_elem? places j ≡ some p → length places ≤ 16 → RoundsHold places
     → let n = length places in let k = length p.client.results in
     Learnt n (ledgers_of places) j p → length p.client.contributions ≡ k + 1 → length p.client.taken ≡ length (sources p.client.scheme n j)
-    → (gathered p.client.scheme n j (own_share p.client) p.client.taken ≡ result_of n (ledgers_of places) k)
+    → (share_with_taken p.client.scheme n j (own_share p.client) p.client.taken ≡ result_of n (ledgers_of places) k)
     × ((i : ℕ) → i < n → HasContributed (ledgers_of places i) k)
-    × (HasEnded n (ledgers_of places) k → IsBound n (ledgers_of places) (result_of n (ledgers_of places) k).low)
+    × (EndsRun n (ledgers_of places) k → IsBound n (ledgers_of places) (result_of n (ledgers_of places) k).low)

@@ -36,7 +36,7 @@ use Rattle.kit_lbts.specs.Views.{is_new, is_in_hand, is_spent, is_orphan}
 use Rattle.kit_lbts.specs.Letters.{letter_in, letter_of}
 use Rattle.kit_lbts.specs.Seats.{waits_in}
 use Rattle.kit_lbts.specs.Promises.{next_contribution}
-use Rattle.kit_lbts.specs.Reduction.{Source, share_stage, reg_of, sources, next_source, gathered}
+use Rattle.kit_lbts.specs.Reduction.{Source, share_stage, reg_of, sources, next_source, share_with_taken}
 
 -- the view of the federate k at first
 abbrev pub lbts_first : Opening → ℕ → LbtsView
@@ -60,14 +60,14 @@ lbts_first o k = record {
 }
 
 -- the start's rules have run
-abbrev pub started : ℕ → LbtsView → LbtsView
-started j v =
+abbrev pub view_after_start : ℕ → LbtsView → LbtsView
+view_after_start j v =
     let s = state_after v.federation j Start 0 0 v.state in
     record v { state = s; request = Some (request_at s.wish 0 v.federation.end); outbox = filter (is_transported v.federation) s.sends }
 
 -- they run before the first step that needs them
-abbrev pub ready : ℕ → LbtsView → LbtsView
-ready j v = if is_new v.request then started j v else v
+abbrev pub view_when_ready : ℕ → LbtsView → LbtsView
+view_when_ready j v = if is_new v.request then view_after_start j v else v
 
 -- the buffers of a mail word, in ascending order
 abbrev pub buffers_in : ℕ → ℕ → ℕ → List ℕ
@@ -77,8 +77,8 @@ abbrev pub in_hand : ℕ → ℕ → InHand
 in_hand i k = record { from = i; buffer = k; head = None }
 
 -- a mail word of i was collected
-abbrev pub collected : ℕ → ℕ → ℕ → ℕ → LbtsView → LbtsView
-collected buffers i word mail v = record v { in_hand = v.in_hand ++ map (in_hand i) (buffers_in buffers word mail) }
+abbrev pub view_after_collect : ℕ → ℕ → ℕ → ℕ → LbtsView → LbtsView
+view_after_collect buffers i word mail v = record v { in_hand = v.in_hand ++ map (in_hand i) (buffers_in buffers word mail) }
 
 -- the head of a copy was read
 abbrev pub with_head : ℕ → ℕ → ℕ → LbtsView → LbtsView
@@ -164,8 +164,8 @@ with_post k j to_post v = record v {
 abbrev pub due_in : ℕ → List Entry → List Message
 due_in d queue = messages_of (filter (λ (e : Entry). nat_le e.message.time d) queue)
 
-abbrev pub granted : ℕ → ℕ → LbtsView → LbtsView
-granted j d v =
+abbrev pub view_after_grant : ℕ → ℕ → LbtsView → LbtsView
+view_after_grant j d v =
     let due = due_in d v.queue in
     let s = after_block v.federation j d v.state due in
     record v {
@@ -184,20 +184,20 @@ abbrev pub own_share : LbtsView → Share
 own_share v = (slice_index_or v.contributions (length v.contributions - 1) nothing).share
 
 -- the result is there where all places are taken in
-abbrev pub closed : ℕ → ℕ → LbtsView → LbtsView
-closed n j v =
+abbrev pub view_after_close : ℕ → ℕ → LbtsView → LbtsView
+view_after_close n j v =
     if is_under_way v && length v.taken == length (sources v.scheme n j)
-    then record v { results = v.results ++ gathered v.scheme n j (own_share v) v.taken ∷ []; taken = [] } else v
+    then record v { results = v.results ++ share_with_taken v.scheme n j (own_share v) v.taken ∷ []; taken = [] } else v
 
-abbrev pub closed_if_flat : Scheme → ℕ → ℕ → LbtsView → LbtsView
-closed_if_flat Flat n j v = closed n j v
-closed_if_flat Butterfly n j v = v
+abbrev pub view_after_close_if_flat : Scheme → ℕ → ℕ → LbtsView → LbtsView
+view_after_close_if_flat Flat n j v = view_after_close n j v
+view_after_close_if_flat Butterfly n j v = v
 
 -- the federate contributed to its next round
-abbrev pub contributed : Place LbtsView → LbtsView
-contributed p =
+abbrev pub view_after_contribution : Place LbtsView → LbtsView
+view_after_contribution p =
     let v = record p.client { contributions = p.client.contributions ++ next_contribution p ∷ []; taken = [] } in
-    closed_if_flat v.scheme p.own.federates p.own.number v
+    view_after_close_if_flat v.scheme p.own.federates p.own.number v
 
 -- a register was looked at that is the next to be taken in, and it showed the round
 abbrev pub shows_next : Option Source → ℕ → Reg → ℕ → Bool
@@ -206,28 +206,28 @@ shows_next (Some s) round r word =
     let reg = reg_of s.owner s.stage round in
     r.owner == reg.owner && r.slot == reg.slot && word / 2 ^ 61 == round % 8
 
-abbrev pub looked : Reg → ℕ → Place LbtsView → LbtsView
-looked r word p =
+abbrev pub view_after_look : Reg → ℕ → Place LbtsView → LbtsView
+view_after_look r word p =
     let v = p.client in
     let n = p.own.federates in
     if is_under_way v && shows_next (next_source v.scheme n p.own.number (length v.taken)) (length v.contributions) r word
-    then closed n p.own.number (record v { taken = v.taken ++ (share_of word).0 ∷ [] }) else v
+    then view_after_close n p.own.number (record v { taken = v.taken ++ (share_of word).0 ∷ [] }) else v
 
 -- a register was published: the clock, the own share, or a value on the way
-abbrev pub published : Reg → ℕ → Place LbtsView → LbtsView
-published r word p =
-    if r.slot == 12 then granted p.own.number word p.client
-    else if r.slot % 6 == share_stage then contributed (record p { client = ready p.own.number p.client })
-    else if r.slot % 6 == 0 then closed p.own.federates p.own.number p.client
+abbrev pub view_after_publish : Reg → ℕ → Place LbtsView → LbtsView
+view_after_publish r word p =
+    if r.slot == 12 then view_after_grant p.own.number word p.client
+    else if r.slot % 6 == share_stage then view_after_contribution (record p { client = view_when_ready p.own.number p.client })
+    else if r.slot % 6 == 0 then view_after_close p.own.federates p.own.number p.client
     else p.client
 
-abbrev pub progressed : Deed → Place LbtsView → LbtsView
-progressed (Looked r word) p = looked r word p
-progressed (Published r word) p = published r word p
-progressed (Charged k mask) p = with_letter k p.client
-progressed (PostedTo k j) p = with_post k j (buffer_of p.own.stock k).to_post p.client
-progressed (Collected i word mail) p = collected p.own.buffers i word mail (ready p.own.number p.client)
-progressed (ReadPart i k zero word) p = with_head i k word p.client
-progressed (ReadPart i k (suc _) word) p = received_whole i k word p.client
-progressed (Released i k) p = put_down i k p.client
-progressed _ p = p.client
+abbrev pub view_after : Deed → Place LbtsView → LbtsView
+view_after (Looked r word) p = view_after_look r word p
+view_after (Published r word) p = view_after_publish r word p
+view_after (Charged k mask) p = with_letter k p.client
+view_after (PostedTo k j) p = with_post k j (buffer_of p.own.stock k).to_post p.client
+view_after (Collected i word mail) p = view_after_collect p.own.buffers i word mail (view_when_ready p.own.number p.client)
+view_after (ReadPart i k zero word) p = with_head i k word p.client
+view_after (ReadPart i k (suc _) word) p = received_whole i k word p.client
+view_after (Released i k) p = put_down i k p.client
+view_after _ p = p.client

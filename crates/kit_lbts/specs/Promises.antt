@@ -1,8 +1,9 @@
 -- What a federate promises, and what it has written down for the rounds.
-use Rattle.std.specs.Prelude.{◌==◌, ℕ, ◌+◌, nat_le, nat_lt, min, Bool, if◌then◌else◌, List, length, map, fold, slice_index_or}
+use Rattle.std.specs.Prelude.{◌≡◌, ◌==◌, ℕ, ◌+◌, nat_le, nat_lt, min, Bool, if◌then◌else◌, List, [], ◌∷◌, length, map, fold, slice_index_or, Option, Some, None}
 use Rattle.kit_ground.specs.declared.place.Place.{Place}
 use Rattle.kit_model.specs.declared.share.Share.{Share}
 use Rattle.kit_model.specs.Counts.{old_count}
+use Rattle.kit_parts.specs.Promises.{promise_at}
 use Rattle.kit_rules.specs.Parts.{effective_lookahead}
 use Rattle.kit_rounds.specs.declared.contribution.Contribution.{Contribution}
 use Rattle.kit_rounds.specs.Ledgers.{Stamp, Copy, Ledger, colours, in_list, last_run}
@@ -16,13 +17,12 @@ use Rattle.kit_lbts.specs.Views.{time_of, due_of, is_waiting, receipts}
 abbrev pub added_of : Place LbtsView → ℕ
 added_of p = effective_lookahead p.client.federation p.own.number
 
--- the promise of a federate at the time `now` with this due time: `min (end + 1) (now + add)` while it
--- waits, otherwise by the due time, and `end + 1` once the end was granted
-abbrev pub promised : ℕ → ℕ → ℕ → ℕ → Bool → ℕ
-promised end add now due waiting = if nat_le end now then end + 1 else min (end + 1) ((if waiting then now else due) + add)
+-- the promise of a federate at the time `now` with this due time, and `end + 1` once the end was granted
+abbrev pub promise_by : ℕ → ℕ → ℕ → ℕ → Bool → ℕ
+promise_by end add now due waiting = if nat_le end now then end + 1 else promise_at end add now due waiting
 
 abbrev pub promise_of : Place LbtsView → ℕ
-promise_of p = promised p.client.federation.end (added_of p) (time_of p.client) (due_of p.client) (is_waiting p.client)
+promise_of p = promise_by p.client.federation.end (added_of p) (time_of p.client) (due_of p.client) (is_waiting p.client)
 
 -- whether a federate may be granted its due time
 abbrev pub may_be_granted : ℕ → ℕ → Bool
@@ -73,6 +73,16 @@ next_run v = run_after (result_at v) (length v.contributions)
 abbrev pub low_in : ℕ → ℕ → List Copy → ℕ
 low_in run promise posted = fold (λ (low : ℕ) (c : Copy). if c.stamp.colour == run then min low c.stamp.time else low) promise posted
 
+-- the lesser of a number and of another, where there is one
+abbrev pub least_with : ℕ → Option ℕ → ℕ
+least_with low None = low
+least_with low (Some time) = min low time
+
+-- the least time of the posts of a run's colour, where there is one
+abbrev pub least_post : ℕ → List Copy → Option ℕ
+least_post run [] = None
+least_post run (c ∷ cs) = if c.stamp.colour == run then Some (least_with c.stamp.time (least_post run cs)) else least_post run cs
+
 -- what it contributes to its next round
 abbrev pub next_contribution : Place LbtsView → Contribution
 next_contribution p =
@@ -84,3 +94,7 @@ next_contribution p =
       posts = length l.posted;
       receipts = length l.received;
     }
+
+-- the low is the lesser of the promise and of the least time of these posts
+abbrev pub LowsAreLeast : Type 0
+LowsAreLeast = (run promise : ℕ) (posted : List Copy) → low_in run promise posted ≡ least_with promise (least_post run posted)

@@ -10,7 +10,7 @@ use Rattle.kit_lbts.specs.declared.view.LbtsView.{LbtsView}
 use Rattle.kit_lbts.specs.Views.{due_of, time_of}
 use Rattle.kit_lbts.specs.Promises.{bound_of, next_contribution, result_at}
 use Rattle.kit_lbts.specs.Reduction.{back_stage, clock_of, needed, published_share, publishes, reg_of, share_stage}
-use Rattle.kit_lbts.specs.Progress.{granted, is_under_way, own_share, progressed, ready}
+use Rattle.kit_lbts.specs.Progress.{view_after_grant, is_under_way, own_share, view_after, view_when_ready}
 use Rattle.kit_lbts.specs.LedgerLaws.{ready_place}
 use Rattle.kit_lbts.specs.Seats.{most_sends}
 
@@ -23,10 +23,10 @@ ShowsLast p = (stage : ℕ) → stage < 6 → publishes p.client.scheme p.own.fe
 -- the own share is published: a contribution of one that has the result of each round before, has shown all that it
 -- publishes of the last one, and has no message half posted
 abbrev pub ContributionsKeep : Rule LbtsView → Type 0
-ContributionsKeep rule = (p : Place LbtsView) → length p.client.contributions ≡ length p.client.results → ShowsLast p → p.client.sending ≡ None → length (ready p.own.number p.client).state.sends ≤ most_sends
+ContributionsKeep rule = (p : Place LbtsView) → length p.client.contributions ≡ length p.client.results → ShowsLast p → p.client.sending ≡ None → length (view_when_ready p.own.number p.client).state.sends ≤ most_sends
     → let round = length p.client.contributions + 1 in
     let r = reg_of p.own.number share_stage round in
-    Keeps rule progressed p (Register r) (λ _. Published r (share_word (next_contribution (ready_place p)).share round))
+    Keeps rule view_after p (Register r) (λ _. Published r (share_word (next_contribution (ready_place p)).share round))
 
 -- a value on the way is published: what it needs was taken in
 abbrev pub ValuesKeep : Rule LbtsView → Type 0
@@ -35,7 +35,7 @@ ValuesKeep rule = (p : Place LbtsView) (stage : ℕ) → stage < share_stage →
     → let round = length p.client.contributions in
     let share = published_share p.client.scheme p.own.federates p.own.number (own_share p.client) p.client.taken stage in
     let r = reg_of p.own.number stage round in
-    Keeps rule progressed p (Register r) (λ _. Published r (share_word share round))
+    Keeps rule view_after p (Register r) (λ _. Published r (share_word share round))
 
 -- the result is published for the outer federate, once the round is closed
 abbrev pub BacksKeep : Rule LbtsView → Type 0
@@ -44,11 +44,11 @@ BacksKeep rule = (p : Place LbtsView) → publishes p.client.scheme p.own.federa
     → let round = length p.client.contributions in
     let share = result_at p.client (length p.client.results - 1) in
     let r = reg_of p.own.number back_stage round in
-    Keeps rule progressed p (Register r) (λ _. Published r (share_word share round))
+    Keeps rule view_after p (Register r) (λ _. Published r (share_word share round))
 
 -- the due time is granted: it is below the known bound, nothing is to be posted, and what is delivered was settled
 abbrev pub GrantsKeep : Rule LbtsView → Type 0
 GrantsKeep rule = (p : Place LbtsView) → p.client.request ≢ None → p.client.outbox ≡ [] → time_of p.client < p.client.federation.end
     → due_of p.client < bound_of p.client → All (λ (e : Entry). e.message.time ≤ due_of p.client → e.buffer ≡ None) p.client.queue
-    → length (granted p.own.number (due_of p.client) p.client).state.sends ≤ most_sends
-    → let r = clock_of p.own.number in Keeps rule progressed p (Register r) (λ _. Published r (due_of p.client))
+    → length (view_after_grant p.own.number (due_of p.client) p.client).state.sends ≤ most_sends
+    → let r = clock_of p.own.number in Keeps rule view_after p (Register r) (λ _. Published r (due_of p.client))

@@ -73,9 +73,9 @@ abbrev pub handed_back : Share → List Share → Share
 handed_back own [] = own
 handed_back own (s ∷ ss) = s
 
-abbrev pub gathered : Scheme → ℕ → ℕ → Share → List Share → Share
-gathered Flat n x own taken = fold share_sum own taken
-gathered Butterfly n x own taken = if is_outer n x then handed_back own taken else fold share_sum own taken
+abbrev pub share_with_taken : Scheme → ℕ → ℕ → Share → List Share → Share
+share_with_taken Flat n x own taken = fold share_sum own taken
+share_with_taken Butterfly n x own taken = if is_outer n x then handed_back own taken else fold share_sum own taken
 
 -- how many are taken in before a stage's value is there: none for the own share, all for the result
 abbrev pub needed : Scheme → ℕ → ℕ → ℕ → ℕ
@@ -85,4 +85,4 @@ needed scheme n x stage =
 
 -- the share that x publishes at a place
 abbrev pub published_share : Scheme → ℕ → ℕ → Share → List Share → ℕ → Share
-published_share scheme n x own taken stage = gathered scheme n x own (take (needed scheme n x stage) taken)
+published_share scheme n x own taken stage = share_with_taken scheme n x own (take (needed scheme n x stage) taken)

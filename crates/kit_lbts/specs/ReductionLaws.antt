@@ -6,7 +6,7 @@ use Rattle.kit_rounds.specs.Ledgers.{Ledger, at_round}
 use Rattle.kit_rounds.specs.Rounds.{HasContributed}
 use Rattle.kit_lbts.specs.declared.view.Scheme.{Scheme}
 use Rattle.kit_lbts.specs.Promises.{unknown}
-use Rattle.kit_lbts.specs.Reduction.{value_at, publishes, sources, source, gathered, needed, published_share}
+use Rattle.kit_lbts.specs.Reduction.{value_at, publishes, sources, source, share_with_taken, needed, published_share}
 use Rattle.kit_lbts.specs.Registers.{IsPlace, IsKnown}
 
 -- these are the values of the places that are taken in first
@@ -23,7 +23,7 @@ PublishedAreValues = (scheme : Scheme) (n x stage : ℕ) (share : ℕ → Share)
 -- and who has taken in all has the result
 abbrev pub AllIsResult : Type 0
 AllIsResult = (scheme : Scheme) (n x : ℕ) (share : ℕ → Share) (taken : List Share) → x < n → n ≤ 16 → AreValues scheme n x share taken
-    → length taken ≡ length (sources scheme n x) → gathered scheme n x (share x) taken ≡ round_result n share
+    → length taken ≡ length (sources scheme n x) → share_with_taken scheme n x (share x) taken ≡ round_result n share
 
 -- what is known of a place stays so while contributions last
 abbrev pub KnownLasts : Type 0

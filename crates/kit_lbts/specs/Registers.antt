@@ -1,5 +1,5 @@
 -- The rule of the registers: what each shows, and what each federate has learnt from them.
-use Rattle.std.specs.Prelude.{◌≡◌, ℕ, zero, suc, ◌+◌, ◌-◌, ◌^◌, ◌<◌, ◌≤◌, ◌⊎◌, true, All, [], length, slice_index_or}
+use Rattle.std.specs.Prelude.{◌≡◌, ℕ, zero, suc, ◌+◌, ◌-◌, ◌^◌, ◌<◌, ◌≤◌, ◌⊎◌, true, false, All, [], length, slice_index_or}
 use Rattle.kit_ground.specs.declared.address.Address.TheVariants.{Register}
 use Rattle.kit_ground.specs.declared.place.Place.{Place}
 use Rattle.kit_ground.specs.Memory.{Memory}
@@ -32,9 +32,9 @@ pub record IsKnown (n : ℕ) (ledgers : ℕ → Ledger) (owner stage k : ℕ) (s
   pub made : (j : ℕ) → j < n → takes_in n owner stage j ≡ true → HasContributed (ledgers j) k
 
 -- the word of a place shows a round, where rounds have the numbers from 1; for the number 0 it was never written
-abbrev pub IsShown : ℕ → (ℕ → Ledger) → ℕ → ℕ → ℕ → ℕ → Type 0
-IsShown n ledgers owner stage zero word = word ≡ 0
-IsShown n ledgers owner stage (suc k) word = (share : Share) × (word ≡ share_word share (suc k)) × IsKnown n ledgers owner stage k share
+abbrev pub ShowsRound : ℕ → (ℕ → Ledger) → ℕ → ℕ → ℕ → ℕ → Type 0
+ShowsRound n ledgers owner stage zero word = word ≡ 0
+ShowsRound n ledgers owner stage (suc k) word = (share : Share) × (word ≡ share_word share (suc k)) × IsKnown n ledgers owner stage k share
 
 abbrev pub word_at : Memory → ℕ → ℕ → ℕ → ℕ
 word_at m owner stage round = m (Register (reg_of owner stage round))
@@ -44,9 +44,11 @@ word_at m owner stage round = m (Register (reg_of owner stage round))
 pub record Registers (m : Memory) (n : ℕ) (ledgers : ℕ → Ledger) (j : ℕ) (p : Place LbtsView) : Type 0 where
   pub now : (stage : ℕ) → stage < 6 → publishes p.client.scheme n j stage ≡ true
       → let c = length p.client.contributions in
-      IsShown n ledgers j stage c (word_at m j stage c) ⊎ IsShown n ledgers j stage (c - 2) (word_at m j stage c)
+      ShowsRound n ledgers j stage c (word_at m j stage c) ⊎ ShowsRound n ledgers j stage (c - 2) (word_at m j stage c)
   pub before : (stage : ℕ) → stage < 6 → publishes p.client.scheme n j stage ≡ true
-      → let c = length p.client.contributions in IsShown n ledgers j stage (c - 1) (word_at m j stage (c + 1))
+      → let c = length p.client.contributions in ShowsRound n ledgers j stage (c - 1) (word_at m j stage (c + 1))
+  -- the registers that it never publishes are as at first
+  pub unused : (stage round : ℕ) → stage < 6 → publishes p.client.scheme n j stage ≡ false → word_at m j stage round ≡ 0
   pub clock : m (Register (clock_of j)) ≡ time_of p.client
   -- the lows of its shares have room in a word
   pub lows : All (λ (c : Contribution). c.share.low < 2 ^ 17) p.client.contributions

@@ -14,7 +14,7 @@ use Rattle.kit_lbts.specs.Promises.{ledgers_of}
 use Rattle.kit_lbts.specs.Registers.{Registers, Learnt}
 use Rattle.kit_lbts.specs.Letters.{Letters}
 use Rattle.kit_lbts.specs.Ways.{WayBetween}
-use Rattle.kit_lbts.specs.Seats.{Holdings, Queue, Heard, Granting, Sends}
+use Rattle.kit_lbts.specs.Seats.{Holdings, Queue, Receiving, Granting, Sends}
 
 -- all federates run one federation, and reduce in one way
 pub record Common (places : List (Place LbtsView)) : Type 0 where
@@ -26,13 +26,13 @@ pub record Common (places : List (Place LbtsView)) : Type 0 where
       → (p.client.federation ≡ federation) × (p.client.scheme ≡ scheme) × (p.own.buffers ≡ federation.buffers)
 
 -- what is said of the federate j
-pub record Seated (m : Memory) (places : List (Place LbtsView)) (j : ℕ) (p : Place LbtsView) : Type 0 where
+pub record FederateRule (m : Memory) (places : List (Place LbtsView)) (j : ℕ) (p : Place LbtsView) : Type 0 where
   pub registers : Registers m (length places) (ledgers_of places) j p
   pub learnt : Learnt (length places) (ledgers_of places) j p
   pub letters : Letters m j p
   pub holdings : Holdings p
   pub queue : Queue j p
-  pub heard : Heard p.client
+  pub heard : Receiving p.client
   pub granting : Granting p
   pub sends : Sends j p
 
@@ -42,7 +42,7 @@ RoundsHold places = (done : ℕ) × RoundRule (length places) (ledgers_of places
 
 pub record LbtsRule (m : Memory) (places : List (Place LbtsView)) : Type 0 where
   pub common : Common places
-  pub each : (j : ℕ) (p : Place LbtsView) → get_elem? places j ≡ some p → Seated m places j p
+  pub each : (j : ℕ) (p : Place LbtsView) → get_elem? places j ≡ some p → FederateRule m places j p
   pub ways : (i j : ℕ) (p q : Place LbtsView) → get_elem? places i ≡ some p → get_elem? places j ≡ some q → WayBetween m i j p q
   pub rounds : RoundsHold places
 

@@ -1,5 +1,5 @@
 -- What the rule says of each federate by itself.
-use Rattle.std.specs.Prelude.{◌≡◌, ◌==◌, ℕ, ◌+◌, ◌<◌, ◌≤◌, Bool, true, false, ◌&&◌, not, if◌then◌else◌, List, [], ◌∷◌, ◌++◌, All, Contains, length, map, filter, count_by, slice_index, slice_index_or, Option, Some, None, IfSome}
+use Rattle.std.specs.Prelude.{◌≡◌, ◌≢◌, ◌==◌, ℕ, ◌+◌, ◌<◌, ◌≤◌, Bool, true, false, ◌&&◌, not, if◌then◌else◌, List, [], ◌∷◌, ◌++◌, All, Contains, length, map, filter, count_by, drop, slice_index, slice_index_or, Option, Some, None, IfSome}
 use Rattle.std.specs.Int.{bit_at}
 use Rattle.std.specs.List.{list_any}
 use Rattle.kit_base.specs.declared.message.Message.{Message}
@@ -16,13 +16,14 @@ use Rattle.kit_rules.specs.Delivery.{has_bit, is_transported, pending_messages}
 use Rattle.kit_rules.specs.Simulation.{request_at}
 use Rattle.kit_rules.specs.Parts.{Parts}
 use Rattle.kit_rules.specs.Step.{is_event, no_message}
+use Rattle.kit_rounds.specs.Ledgers.{last_run}
 use Rattle.kit_lbts.specs.declared.view.InHand.{InHand}
 use Rattle.kit_lbts.specs.declared.view.Posting.{Posting}
 use Rattle.kit_lbts.specs.declared.view.Spent.{Spent}
 use Rattle.kit_lbts.specs.declared.view.LbtsView.{LbtsView}
-use Rattle.kit_lbts.specs.Views.{entries_of, time_of, received, delivered, is_for, is_in_hand, is_spent, is_orphan, transported_of}
+use Rattle.kit_lbts.specs.Views.{entries_of, time_of, received, delivered, has_receiver, is_in_hand, is_spent, is_orphan, transported_of}
 use Rattle.kit_lbts.specs.Promises.{bound_of, added_of}
-use Rattle.kit_lbts.specs.Ways.{posted_to}
+use Rattle.kit_lbts.specs.Ways.{letters_posted_to}
 use Rattle.kit_lbts.specs.declared.view.Filled.{Filled}
 
 -- whether an entry has this buffer
@@ -64,7 +65,7 @@ abbrev pub is_orphaned : ℕ → ℕ → List Message → Bool
 is_orphaned i n ms = list_any (names i n) ms && not (list_any (is_event_of i n) ms)
 
 -- its orphans are the Events whose Retraction it received before them, and what was delivered to it was received
-pub record Heard (v : LbtsView) : Type 0 where
+pub record Receiving (v : LbtsView) : Type 0 where
   pub orphans : (i n : ℕ) → list_any (is_orphan i n) v.orphans ≡ is_orphaned i n (received v)
   pub came : All (Contains (received v)) (delivered v)
   pub past : All (λ (m : Message). m.time ≤ time_of v) (delivered v)
@@ -81,13 +82,13 @@ pub record Granting (p : Place LbtsView) : Type 0 where
 -- whether the first message of the outbox is still to be posted to j: by the buffer that is being posted, or, where
 -- there is none, to each that it is for
 abbrev pub is_owed : Option ℕ → SeatBuffers → Parts → ℕ → Message → Bool
-is_owed None s f j m = is_for f j m
+is_owed None s f j m = has_receiver f j m
 is_owed (Some k) s f j m = has_bit (buffer_of s k).to_post j
 
 -- the messages of an outbox that are still to be posted to j
 abbrev pub left_of : Option ℕ → SeatBuffers → Parts → ℕ → List Message → List Message
 left_of sending s f j [] = []
-left_of sending s f j (m ∷ ms) = if is_owed sending s f j m then m ∷ filter (is_for f j) ms else filter (is_for f j) ms
+left_of sending s f j (m ∷ ms) = if is_owed sending s f j m then m ∷ filter (has_receiver f j) ms else filter (has_receiver f j) ms
 
 -- a Retraction takes back an Event of the same time and group that was sent, and no other one does
 pub record TakeBack (sends : List Message) : Type 0 where
@@ -99,6 +100,14 @@ pub record TakeBack (sends : List Message) : Type 0 where
 abbrev pub most_sends : ℕ
 most_sends = 16384
 
+-- each message has one buffer, and that is charged with it once: what the buffers were last charged with is of these sends
+-- and transported; but for the buffer that is being posted, it has left the outbox, from where alone buffers are
+-- charged; and no two buffers have one message
+pub record AreChargedOnce (f : Parts) (sends outbox : List Message) (sending : Option ℕ) (filled : List (Option Filled)) : Type 0 where
+  pub sent : (k : ℕ) (x : Filled) → slice_index_or filled k None ≡ Some x → Contains (filter (is_transported f) sends) x.message
+  pub gone : (k : ℕ) (x : Filled) → slice_index_or filled k None ≡ Some x → sending ≢ Some k → Contains outbox x.message → ⊥
+  pub apart : (k l : ℕ) (x y : Filled) → k ≢ l → slice_index_or filled k None ≡ Some x → slice_index_or filled l None ≡ Some y → x.message.number ≢ y.message.number
+
 -- what it sent: the messages to j that are transported are those posted to j and those still to be posted
 pub record Sends (j : ℕ) (p : Place LbtsView) : Type 0 where
   pub own : All (λ (m : Message). m.sender ≡ j) p.client.state.sends
@@ -109,10 +118,15 @@ pub record Sends (j : ℕ) (p : Place LbtsView) : Type 0 where
   pub waiting : All (Contains p.client.state.sends) p.client.outbox
   pub late : All (λ (m : Message). time_of p.client + added_of p ≤ m.time) p.client.outbox
   pub transported : All (λ (m : Message). is_transported p.client.federation m ≡ true) p.client.outbox
+  -- in the order of their numbers, its transported messages are those posted whole and then its outbox
+  pub behind : (posted : ℕ) × (p.client.outbox ≡ drop posted (transported_of p.client))
+  pub once : AreChargedOnce p.client.federation p.client.state.sends p.client.outbox p.client.sending p.client.filled
   pub each : (i : ℕ) → i < p.own.federates
-      → filter (is_for p.client.federation i) (transported_of p.client)
-      ≡ map (λ (f : Filled). f.message) (posted_to i p.client) ++ left_of p.client.sending p.own.stock p.client.federation i p.client.outbox
+      → filter (has_receiver p.client.federation i) (transported_of p.client)
+      ≡ map (λ (f : Filled). f.message) (letters_posted_to i p.client) ++ left_of p.client.sending p.own.stock p.client.federation i p.client.outbox
   pub receivers : All (λ (x : Posting). x.to < p.own.federates) p.client.posted
+  -- it posted nothing in a later colour than its own
+  pub coloured : All (λ (x : Posting). x.filled.colour ≤ last_run p.client.contributions) p.client.posted
   pub few : length p.client.state.sends ≤ most_sends
   -- before its start it has sent, received and been granted nothing
   pub new : p.client.request ≡ None → (p.client.state.sends ≡ []) × (p.client.posted ≡ []) × (p.client.journal ≡ []) × (p.client.outbox ≡ []) × (p.client.in_hand ≡ [])

@@ -6,15 +6,15 @@ use Rattle.kit_ground.specs.declared.place.Deed.TheVariants.{Looked, SawStop, St
 use Rattle.kit_ground.specs.declared.place.Place.{Place}
 use Rattle.kit_ground.specs.Rules.{Keeps, Rule}
 use Rattle.kit_lbts.specs.declared.view.LbtsView.{LbtsView}
-use Rattle.kit_lbts.specs.Progress.{progressed}
+use Rattle.kit_lbts.specs.Progress.{view_after}
 
 -- a federate may look at any register at any time
 abbrev pub LooksKeep : Rule LbtsView → Type 0
-LooksKeep rule = (p : Place LbtsView) (r : Reg) → Keeps rule progressed p (Register r) (λ word. Looked r word)
+LooksKeep rule = (p : Place LbtsView) (r : Reg) → Keeps rule view_after p (Register r) (λ word. Looked r word)
 
 -- and at the stop word, and set it
 abbrev pub StopLooksKeep : Rule LbtsView → Type 0
-StopLooksKeep rule = (p : Place LbtsView) → Keeps rule progressed p Stop (λ word. SawStop (word == 1))
+StopLooksKeep rule = (p : Place LbtsView) → Keeps rule view_after p Stop (λ word. SawStop (word == 1))
 
 abbrev pub StopsKeep : Rule LbtsView → Type 0
-StopsKeep rule = (p : Place LbtsView) → Keeps rule progressed p Stop (λ _. Stopped)
+StopsKeep rule = (p : Place LbtsView) → Keeps rule view_after p Stop (λ _. Stopped)

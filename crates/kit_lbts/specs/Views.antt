@@ -67,8 +67,8 @@ abbrev pub is_waiting : LbtsView → Bool
 is_waiting v = is_new v.request || not (is_empty v.outbox)
 
 -- whether a message is for the federate j
-abbrev pub is_for : Parts → ℕ → Message → Bool
-is_for p j m = has_bit (receivers_of p m.sender m.group) j
+abbrev pub has_receiver : Parts → ℕ → Message → Bool
+has_receiver p j m = has_bit (receivers_of p m.sender m.group) j
 
 -- the messages that it sent and that are transported
 abbrev pub transported_of : LbtsView → List Message

@@ -16,12 +16,12 @@ use Rattle.kit_lbts.specs.Views.{receipts, is_in_hand}
 use Rattle.kit_lbts.specs.Letters.{letter_in}
 
 -- what the federate posted to j, in order
-abbrev pub posted_to : ℕ → LbtsView → List Filled
-posted_to j v = map (λ (x : Posting). x.filled) (filter (λ (x : Posting). x.to == j) v.posted)
+abbrev pub letters_posted_to : ℕ → LbtsView → List Filled
+letters_posted_to j v = map (λ (x : Posting). x.filled) (filter (λ (x : Posting). x.to == j) v.posted)
 
 -- what it received from i, in order
-abbrev pub received_from : ℕ → LbtsView → List Filled
-received_from i v = filter (λ (f : Filled). f.message.sender == i) (receipts v)
+abbrev pub letters_received_from : ℕ → LbtsView → List Filled
+letters_received_from i v = filter (λ (f : Filled). f.message.sender == i) (receipts v)
 
 -- 1 where the bit of the buffer k of i stands in the mail of j, otherwise 0
 abbrev pub marked : Memory → ℕ → ℕ → ℕ → ℕ
@@ -38,7 +38,7 @@ passing_copies t letter copies b = sum_to (λ k. if t (letter k) then copies k e
 -- the channel from i, with the view v and b buffers, to j, with the view u, where this is in the mail. Of the
 -- copies that pass any test, those posted are those received, those in hand and those in the mail.
 pub record Way (b : ℕ) (mail : ℕ → ℕ) (i j : ℕ) (v u : LbtsView) : Type 0 where
-  pub copies : (t : Filled → Bool) → count_by t (posted_to j v) ≡ count_by t (received_from i u) + passing_copies t (letter_in v) (copies_on_way mail i u.in_hand) b
+  pub copies : (t : Filled → Bool) → count_by t (letters_posted_to j v) ≡ count_by t (letters_received_from i u) + passing_copies t (letter_in v) (copies_on_way mail i u.in_hand) b
   -- a head that was read is that of the letter, and a message that waits with its buffer lies in it
   pub heads : All (λ (h : InHand). h.from ≡ i → IfSome h.head (λ word. word ≡ head_word (letter_in v h.buffer).message (letter_in v h.buffer).colour)) u.in_hand
   pub lies : All (λ (e : Entry). e.message.sender ≡ i → IfSome e.buffer (λ k. (letter_in v k).message ≡ e.message)) u.queue

@@ -4,6 +4,7 @@ use kit_known::Known;
 use kit_rules::Federation;
 
 /// What a run begins with: the federation, and how all seats reduce.
+#[derive(Drop)]
 pub struct Opening {
     pub federation: Known<Federation>,
     pub scheme: Scheme,
@@ -11,9 +12,9 @@ pub struct Opening {
 
 /// The rule of a federation on a floor.
 ///
-/// What a federate has in its queue and its journal was sent to it; the rounds of the reduction are those of
-/// Mattern's coloured counts; registers show what was contributed; and each federate agrees with the
-/// sequential simulation.
+/// What a federate has in its queue and its journal was sent to it; the rounds of the reduction are
+/// those of Mattern's coloured counts; registers show what was contributed; and each federate
+/// agrees with the sequential simulation.
 pub struct Lbts;
 
 impl Protocol for Lbts {
@@ -30,10 +31,10 @@ impl Protocol for Lbts {
 }
 
 /// What each step does to the view of the seat that makes it.
-pub struct Progress;
+pub struct LbtsEvent;
 
-impl Event<LbtsView> for Progress {
-    ghost use Rattle.kit_lbts.specs.Progress.{progressed};
+impl Event<LbtsView> for LbtsEvent {
+    ghost use Rattle.kit_lbts.specs.Progress.{view_after};
 
-    ghost next = { progressed };
+    ghost next = { view_after };
 }

@@ -1,4 +1,5 @@
-//! What a federate knows. Contracts alone see it: no value of these types is made, but for `Scheme`.
+//! What a federate knows. Contracts alone see it: no value of these types is made, but for
+//! `Scheme`.
 use kit_base::Message;
 use kit_model::{JournalEntry, Share};
 use kit_queue::Entry;
@@ -33,8 +34,8 @@ pub struct Posting {
     pub filled: Filled,
 }
 
-/// A copy that was collected and is still to be received: its sender, its buffer, and its head where that
-/// was read.
+/// A copy that was collected and is still to be received: its sender, its buffer, and its head
+/// where that was read.
 pub struct InHand {
     pub from: u64,
     pub buffer: u64,

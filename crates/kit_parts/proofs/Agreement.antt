@@ -9,8 +9,8 @@ use Rattle.kit_rules.specs.Delivery.{is_pending, pending_messages, is_due, due_m
 use Rattle.kit_rules.specs.Simulation.{Seat, Block, block, seat_at, seat_due, simulation}
 use Rattle.kit_laws.proofs.Least.{next_stands}
 use Rattle.kit_laws.proofs.Rising.{last_grants}
-use Rattle.kit_parts.specs.Fronts.{seat_after, part, IsFront, is_for}
-use Rattle.kit_parts.specs.Cuts.{Heard}
+use Rattle.kit_parts.specs.Fronts.{seat_after, part, IsFront, is_transported_to}
+use Rattle.kit_parts.specs.Cuts.{HasAllBelow}
 use Rattle.kit_parts.specs.Laws.{GrantsAgree}
 use Rattle.kit_parts.proofs.Among.{Among, contains_among, among_contains, among_filter, filter_among, distinct_filter, pairs_distinct}
 use Rattle.kit_parts.proofs.Ways.{next_block}
@@ -42,11 +42,11 @@ unfinished p i done f lt front below =
     ]
 
 -- the world of a next block, and what a federate has heard of
-module _ (p : Parts) (f : IsFederation p) (bound i : ℕ) (received : List Message) (heard : Heard p bound i received) (done : List Block) (c : Comes p i done) where
+module _ (p : Parts) (f : IsFederation p) (bound i : ℕ) (received : List Message) (heard : HasAllBelow p bound i received) (done : List Block) (c : Comes p i done) where
   real : (r : Message) → Among r received → Among r (simulation p).messages
   real r a = contains_among r (simulation p).messages (heard.sent r (among_contains r received a)).0
 
-  full : (r : Message) → Among r (simulation p).messages → is_for p i r ≡ true → r.time < bound → Among r received
+  full : (r : Message) → Among r (simulation p).messages → is_transported_to p i r ≡ true → r.time < bound → Among r received
   full r a here lt = contains_among r received (heard.came r (among_contains r (simulation p).messages a) here lt)
 
   -- it is due when the simulation grants it, or not below the bound

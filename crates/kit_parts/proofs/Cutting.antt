@@ -7,7 +7,7 @@ use Rattle.kit_base.specs.declared.message.Message.{Message}
 use Rattle.kit_rules.specs.Parts.{Parts}
 use Rattle.kit_rules.specs.Federation.{IsFederation}
 use Rattle.kit_rules.specs.Simulation.{Block}
-use Rattle.kit_parts.specs.Fronts.{is_for, is_by, sent_by, sends_after, seat_after}
+use Rattle.kit_parts.specs.Fronts.{is_transported_to, is_by, sent_by, sends_after, seat_after}
 use Rattle.kit_parts.specs.Laws.{BoundsAreCuts, ListsAreSplit}
 use Rattle.kit_laws.proofs.Needs.{count_by-append}
 use Rattle.kit_parts.proofs.Among.{Among, among_filter, filter_among, contains_among, among_contains, Distinct, distinct_filter, distinct_pairs}
@@ -31,19 +31,19 @@ bounds_are_cuts_law p f bound all transit waiting b =
           let s = sender i lt m a in
           let k = (b.sound.split m.sender i s lt).counts (same m) in
           let here = count_has (same m) m (filter (is_by m.sender) (all i).received) (among_filter (is_by m.sender) m (all i).received a (eq-eqb m.sender m.sender refl)) (same_here m) in
-          let r = has_same m (filter (is_for p i) (sent_by p m.sender (all m.sender))) (omega (arith, k, here)) in
-          let q = filter_among (is_for p i) m (sent_by p m.sender (all m.sender)) r in
+          let r = has_same m (filter (is_transported_to p i) (sent_by p m.sender (all m.sender))) (omega (arith, k, here)) in
+          let q = filter_among (is_transported_to p i) m (sent_by p m.sender (all m.sender)) r in
           (s, among_contains m (sent_by p m.sender (all m.sender)) q.0, q.1);
       once = λ i lt. distinct_pairs (all i).received (apart_each (all i).received (λ j. once_count (filter (is_by j) (all i).received) (λ m a.
           let q = filter_among (is_by j) m (all i).received a in
           let e : m.sender ≡ j = eqb-true m.sender j q.1 in
           let s : j < n = (let h = sender i lt m q.0 in omega (arith, e)) in
           let k = (b.sound.split j i s lt).counts (same m) in
-          omega (arith, k, count_once m (filter (is_for p i) (sent_by p j (all j))) (distinct_filter (is_for p i) (sent_by p j (all j)) (sent_distinct p j (all j).done f s))))));
+          omega (arith, k, count_once m (filter (is_transported_to p i) (sent_by p j (all j))) (distinct_filter (is_transported_to p i) (sent_by p j (all j)) (sent_distinct p j (all j).done f s))))));
       came = λ i j li lj m c here below.
           let a = contains_among m (sent_by p j (all j)) c in
           let k = (b.sound.split j i lj li).counts (same m) in
-          let one = count_has (same m) m (filter (is_for p i) (sent_by p j (all j))) (among_filter (is_for p i) m (sent_by p j (all j)) a here) (same_here m) in
+          let one = count_has (same m) m (filter (is_transported_to p i) (sent_by p j (all j))) (among_filter (is_transported_to p i) m (sent_by p j (all j)) a here) (same_here m) in
           let not_late : (xs : List Message) → All (λ (x : Message). bound ≤ x.time) xs → count_by (same m) xs ≤ 0 = λ xs late. elim (cases_lt 0 (count_by (same m) xs)) [
             | inl lt ↦ absurd (
                 let a = has_same m xs (let l : 0 < count_by (same m) xs = lt in omega arith) in

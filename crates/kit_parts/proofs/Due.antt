@@ -10,9 +10,9 @@ use Rattle.kit_rules.specs.Federation.{IsFederation}
 use Rattle.kit_rules.specs.Step.{is_event}
 use Rattle.kit_rules.specs.Delivery.{is_pending, pending_messages, is_transported, has_bit, receivers_of, is_same, retracts, due_time}
 use Rattle.kit_rules.specs.Simulation.{World, next_grant, world_after_grant, after_grants, simulation}
-use Rattle.kit_laws.specs.Sane.{time_of}
+use Rattle.kit_laws.proofs.Sane.{time_of}
 use Rattle.kit_laws.proofs.Pendings.{earliest_low, not_false}
-use Rattle.kit_parts.specs.Fronts.{is_for}
+use Rattle.kit_parts.specs.Fronts.{is_transported_to}
 use Rattle.kit_parts.proofs.Among.{Among, among_left, among_filter, filter_among, any_among, among_any}
 use Rattle.kit_parts.proofs.Ways.{OnWay, made_by}
 use Rattle.kit_parts.proofs.Sent.{later_sent, stays_sent}
@@ -21,7 +21,7 @@ use Rattle.kit_parts.proofs.Whole.{retraction_same}
 -- what it is to be pending
 pub record Held (p : Parts) (i : ℕ) (got sent : List Message) (m : Message) : Type 0 where
   pub event : is_event m.kind ≡ true
-  pub here : is_for p i m ≡ true
+  pub here : is_transported_to p i m ≡ true
   pub fresh : list_any (is_same m) got ≡ false
   pub kept : list_any (retracts m) sent ≡ false
 
@@ -118,7 +118,7 @@ module _ (p : Parts) (f : IsFederation p) (n : ℕ) (last : ℕ × ℕ) (w : Wor
       ])
 
   -- and what is pending by that, and timed below what is known, is pending there
-  pub pending_here : (bound i : ℕ) (got received : List Message) (m : Message) → ((r : Message) → Among r (simulation p).messages → is_for p i r ≡ true → r.time < bound → Among r received)
+  pub pending_here : (bound i : ℕ) (got received : List Message) (m : Message) → ((r : Message) → Among r (simulation p).messages → is_transported_to p i r ≡ true → r.time < bound → Among r received)
       → Among m (simulation p).messages → m.time < bound → Held p i got received m → Held p i got w.messages m
   pending_here bound i got received m full a lt h = held_by p i got received w.messages m h (λ r in_r e.
       let whole = of_whole r in_r in

@@ -9,7 +9,7 @@ use Rattle.kit_rules.specs.Parts.{Parts, effective_lookahead}
 use Rattle.kit_rules.specs.Federation.{IsFederation}
 use Rattle.kit_rules.specs.Simulation.{Seat, Block, seat_at_start, seat_due}
 use Rattle.kit_laws.proofs.Needs.{count_by-append}
-use Rattle.kit_parts.specs.Fronts.{seat_with, seat_after, IsFront, AreFront, is_for, is_by, Progress, sent_by, sends_after}
+use Rattle.kit_parts.specs.Fronts.{seat_with, seat_after, IsFront, AreFront, is_transported_to, is_by, Standing, sent_by, sends_after}
 use Rattle.kit_parts.specs.Promises.{promise}
 use Rattle.kit_parts.specs.PromiseLaws.{AddsFrom}
 use Rattle.kit_parts.specs.Flows.{Moment, Bounds, with_one, with_pair, progress, after_start, after_post, after_receipt, after_last_post, due_block, after_grant}
@@ -26,25 +26,25 @@ use Rattle.kit_parts.proofs.Moments.{Sound, HeldBack, Good, held_late, none_held
 
 -- what federate j sent to k is split
 abbrev Split : Parts → ℕ → ℕ → List Message → List Message → List Message → List Message → Type 0
-Split p j k sends received transit waiting = (test : Message → Bool) → count_by test (filter (is_for p k) sends) ≡ count_by test (filter (is_by j) received) + count_by test transit + count_by test waiting
+Split p j k sends received transit waiting = (test : Message → Bool) → count_by test (filter (is_transported_to p k) sends) ≡ count_by test (filter (is_by j) received) + count_by test transit + count_by test waiting
 
 module _ (p : Parts) (f : IsFederation p) (a : Moment) (good : Good p a) where
   -- a receipt's counts
-  receipt_split : (i j : ℕ) (before : List Message) (m : Message) (after : List Message) (q : Progress) → a.transit i j ≡ before ++ m ∷ after → m.sender ≡ i → q.received ≡ (a.all j).received ++ m ∷ [] → (test : Message → Bool)
+  receipt_split : (i j : ℕ) (before : List Message) (m : Message) (after : List Message) (q : Standing) → a.transit i j ≡ before ++ m ∷ after → m.sender ≡ i → q.received ≡ (a.all j).received ++ m ∷ [] → (test : Message → Bool)
       → (k l : ℕ) → k < length p.federates → l < length p.federates
-      → count_by test (filter (is_for p l) (sent_by p k (a.all k))) ≡ count_by test (filter (is_by k) (with_one a.all j q l).received) + count_by test (with_pair a.transit i j (before ++ after) k l) + count_by test (a.waiting k l)
+      → count_by test (filter (is_transported_to p l) (sent_by p k (a.all k))) ≡ count_by test (filter (is_by k) (with_one a.all j q l).received) + count_by test (with_pair a.transit i j (before ++ after) k l) + count_by test (a.waiting k l)
   receipt_split i j before m after q is by got test k l lk ll =
-      let S : List Message → List Message → Type 0 = λ r t. count_by test (filter (is_for p l) (sent_by p k (a.all k))) ≡ count_by test (filter (is_by k) r) + count_by test t + count_by test (a.waiting k l) in
+      let S : List Message → List Message → Type 0 = λ r t. count_by test (filter (is_transported_to p l) (sent_by p k (a.all k))) ≡ count_by test (filter (is_by k) r) + count_by test t + count_by test (a.waiting k l) in
       let was = (good.base.sound.split k l lk ll).counts test in
       elim (cases_eq l j) [
-        | inr ne ↦ (let P : Progress → Type 0 = λ v. S v.received (with_pair a.transit i j (before ++ after) k l) in
+        | inr ne ↦ (let P : Standing → Type 0 = λ v. S v.received (with_pair a.transit i j (before ++ after) k l) in
             let off : with_pair a.transit i j (before ++ after) k l ≡ a.transit k l = elim (cases_eq k i) [
               | inl e ↦ (let Q : ℕ → Type 0 = λ n. with_pair a.transit i j (before ++ after) n l ≡ a.transit n l in subst Q (sym e) (ap (λ (r : ℕ → List Message). r l) (at_one a.transit i (with_one (a.transit i) j (before ++ after))) ∙ off_one (a.transit i) j (before ++ after) l ne))
               | inr other ↦ ap (λ (r : ℕ → List Message). r l) (off_one a.transit i (with_one (a.transit i) j (before ++ after)) k other)
             ] in
             let R : List Message → Type 0 = S (a.all l).received in
             subst P (sym (off_one a.all j q l ne)) (subst R (sym off) was))
-        | inl e ↦ (let P : Progress → Type 0 = λ v. S v.received (with_pair a.transit i j (before ++ after) k l) in
+        | inl e ↦ (let P : Standing → Type 0 = λ v. S v.received (with_pair a.transit i j (before ++ after) k l) in
             let Q : ℕ → Type 0 = λ n. with_one a.all j q n ≡ q in
             let here : with_one a.all j q l ≡ q = subst Q (sym e) (at_one a.all j q) in
             let T : List Message → Type 0 = λ r. S r (with_pair a.transit i j (before ++ after) k l) in
@@ -91,14 +91,14 @@ module _ (p : Parts) (f : IsFederation p) (a : Moment) (good : Good p a) where
   pub start_sound : (i : ℕ) → i < length p.federates → (a.all i).done ≡ None → Sound p (after_start p a i)
   start_sound i lt none =
       let q = progress (Some []) true (a.all i).received in
-      let row : ℕ → List Message = λ j. filter (is_for p j) (seat_at_start p i).state.sends in
+      let row : ℕ → List Message = λ j. filter (is_transported_to p j) (seat_at_start p i).state.sends in
       let c = after_start p a i in
       let same : (k : ℕ) → (c.all k).received ≡ (a.all k).received = each_one (λ k v. v.received ≡ (a.all k).received) a.all i q refl (λ k ne. refl) in
       let late = starts_send_late_law p f i lt in
       let split : (j k : ℕ) → j < length p.federates → k < length p.federates → Split p j k (sent_by p j (c.all j)) (a.all k).received (a.transit j k) (c.waiting j k) =
       λ j k. each_two (λ j v w. j < length p.federates → k < length p.federates → Split p j k (sent_by p j v) (a.all k).received (a.transit j k) (w k)) a.all a.waiting i q row
       (λ li lk test.
-      let P : Option (List Block) → Type 0 = λ o. count_by test (filter (is_for p k) (sends_after p i o)) ≡ count_by test (filter (is_by i) (a.all k).received) + count_by test (a.transit i k) + count_by test (a.waiting i k) in
+      let P : Option (List Block) → Type 0 = λ o. count_by test (filter (is_transported_to p k) (sends_after p i o)) ≡ count_by test (filter (is_by i) (a.all k).received) + count_by test (a.transit i k) + count_by test (a.waiting i k) in
       let was : count_by test [] ≡ count_by test (filter (is_by i) (a.all k).received) + count_by test (a.transit i k) + count_by test (a.waiting i k) = subst P none ((good.base.sound.split i k li lk).counts test) in
       let z : count_by test [] ≡ 0 = refl in
       omega (arith, was, z))
@@ -108,12 +108,12 @@ module _ (p : Parts) (f : IsFederation p) (a : Moment) (good : Good p a) where
         senders = each_one (λ k v. k < length p.federates → All (λ (m : Message). m.sender < length p.federates) v.received) a.all i q (λ l. good.base.sound.senders i l) (λ k ne l. good.base.sound.senders k l);
         split = λ j k lj lk. record {
           counts = λ test.
-              let P : List Message → Type 0 = λ r. count_by test (filter (is_for p k) (sent_by p j (c.all j))) ≡ count_by test (filter (is_by j) r) + count_by test (a.transit j k) + count_by test (c.waiting j k) in
+              let P : List Message → Type 0 = λ r. count_by test (filter (is_transported_to p k) (sent_by p j (c.all j))) ≡ count_by test (filter (is_by j) r) + count_by test (a.transit j k) + count_by test (c.waiting j k) in
               subst P (sym (same k)) (split j k lj lk test);
         };
         waiting_late = λ j k. each_two (λ j v w. j < length p.federates → k < length p.federates → All (λ (m : Message). promise p j v ≤ m.time) (w k)) a.all a.waiting i q row
             (λ li lk. all_of (λ (m : Message). promise p i q ≤ m.time) (row k) (λ m h.
-            let l = one_of (λ (m : Message). effective_lookahead p i ≤ m.time) (seat_at_start p i).state.sends m late (filter_among (is_for p k) m (seat_at_start p i).state.sends h).0 in
+            let l = one_of (λ (m : Message). effective_lookahead p i ≤ m.time) (seat_at_start p i).state.sends m late (filter_among (is_transported_to p k) m (seat_at_start p i).state.sends h).0 in
             omega (arith, l, waiting_keeps_promise_law p f i lt (a.all i).received [])))
             (λ j ne lj lk. good.base.sound.waiting_late j k lj lk) j;
       }
@@ -128,7 +128,7 @@ module _ (p : Parts) (f : IsFederation p) (a : Moment) (good : Good p a) where
         fronts = good.base.sound.fronts;
         senders = good.base.sound.senders;
         split = λ k l lk ll. record {
-          counts = λ test. pair (λ k l t w. k < length p.federates → l < length p.federates → count_by test (filter (is_for p l) (sent_by p k (a.all k))) ≡ count_by test (filter (is_by k) (a.all l).received) + count_by test t + count_by test w)
+          counts = λ test. pair (λ k l t w. k < length p.federates → l < length p.federates → count_by test (filter (is_transported_to p l) (sent_by p k (a.all k))) ≡ count_by test (filter (is_by k) (a.all l).received) + count_by test t + count_by test w)
               a.transit a.waiting i j (a.transit i j ++ m ∷ []) (before ++ after)
               (λ u v. omega (arith, (good.base.sound.split i j u v).counts test, ap (count_by test) is, count_by-append test before (m ∷ after), count_by-cons test m after, count_by-append test (a.transit i j) (m ∷ []), count_by-cons test m [], count_by-append test before after))
               (λ k l u v. (good.base.sound.split k l u v).counts test) k l lk ll;
@@ -152,7 +152,7 @@ module _ (p : Parts) (f : IsFederation p) (a : Moment) (good : Good p a) where
             (λ l. All-push (λ (x : Message). x.sender < length p.federates) (a.all j).received m (good.base.sound.senders j l) (omega (arith, by))) (λ k ne l. good.base.sound.senders k l);
         split = λ k l lk ll. record {
           counts = λ test.
-              let P : List Message → Type 0 = λ s. count_by test (filter (is_for p l) s) ≡ count_by test (filter (is_by k) (c.all l).received) + count_by test (c.transit k l) + count_by test (a.waiting k l) in
+              let P : List Message → Type 0 = λ s. count_by test (filter (is_transported_to p l) s) ≡ count_by test (filter (is_by k) (c.all l).received) + count_by test (c.transit k l) + count_by test (a.waiting k l) in
               subst P (sym (same k)) (receipt_split i j before m after q is by refl test k l lk ll);
         };
         waiting_late = λ k l. each_one (λ k v. k < length p.federates → l < length p.federates → All (λ (x : Message). promise p k v ≤ x.time) (a.waiting k l)) a.all j q
@@ -172,8 +172,8 @@ module _ (p : Parts) (f : IsFederation p) (a : Moment) (good : Good p a) where
         senders = each_one (λ k v. k < length p.federates → All (λ (m : Message). m.sender < length p.federates) v.received) a.all i q (λ l. good.base.sound.senders i l) (λ k ne l. good.base.sound.senders k l);
         split = λ j k lj lk. record {
           counts = λ test.
-              let P : List Message → Type 0 = λ s. count_by test (filter (is_for p k) s) ≡ count_by test (filter (is_by j) (c.all k).received) + count_by test (a.transit j k) + count_by test (a.waiting j k) in
-              let Q : List Message → Type 0 = λ r. count_by test (filter (is_for p k) (sent_by p j (a.all j))) ≡ count_by test (filter (is_by j) r) + count_by test (a.transit j k) + count_by test (a.waiting j k) in
+              let P : List Message → Type 0 = λ s. count_by test (filter (is_transported_to p k) s) ≡ count_by test (filter (is_by j) (c.all k).received) + count_by test (a.transit j k) + count_by test (a.waiting j k) in
+              let Q : List Message → Type 0 = λ r. count_by test (filter (is_transported_to p k) (sent_by p j (a.all j))) ≡ count_by test (filter (is_by j) r) + count_by test (a.transit j k) + count_by test (a.waiting j k) in
               subst P (sym (same j)) (subst Q (sym (got k)) ((good.base.sound.split j k lj lk).counts test));
         };
         waiting_late = λ j k. each_one (λ j v. j < length p.federates → k < length p.federates → All (λ (x : Message). promise p j v ≤ x.time) (a.waiting j k)) a.all i q
@@ -190,7 +190,7 @@ module _ (p : Parts) (f : IsFederation p) (a : Moment) (good : Good p a) where
       let q = progress (Some (done ++ d ∷ [])) true (a.all i).received in
       let new = seat_with p i d s in
       let made = drop (length s.state.sends) new.state.sends in
-      let row : ℕ → List Message = λ j. filter (is_for p j) made in
+      let row : ℕ → List Message = λ j. filter (is_transported_to p j) made in
       let c = after_grant p a i done in
       let front = granted_front i done known li is below k due in
       let sends = grants_send_late_law p f i li d s in
@@ -201,22 +201,22 @@ module _ (p : Parts) (f : IsFederation p) (a : Moment) (good : Good p a) where
       let split : (j k : ℕ) → j < length p.federates → k < length p.federates → Split p j k (sent_by p j (c.all j)) (a.all k).received (a.transit j k) (c.waiting j k) =
       λ j k. each_two (λ j v w. j < length p.federates → k < length p.federates → Split p j k (sent_by p j v) (a.all k).received (a.transit j k) (w k)) a.all a.waiting i q row
       (λ u v test.
-      let P : Option (List Block) → Type 0 = λ o. count_by test (filter (is_for p k) (sends_after p i o)) ≡ count_by test (filter (is_by i) (a.all k).received) + count_by test (a.transit i k) + count_by test (a.waiting i k) in
+      let P : Option (List Block) → Type 0 = λ o. count_by test (filter (is_transported_to p k) (sends_after p i o)) ≡ count_by test (filter (is_by i) (a.all k).received) + count_by test (a.transit i k) + count_by test (a.waiting i k) in
       let was = subst P is ((good.base.sound.split i k u v).counts test) in
       let none : a.waiting i k ≡ [] = none_held p i (a.all i) (a.waiting i k) idle (good.held i k u v) in
       let zero_count : count_by test (a.waiting i k) ≡ 0 = ap (count_by test) none in
-      omega (arith, was, zero_count, ap (λ xs. count_by test (filter (is_for p k) xs)) all_sends, ap (count_by test) (filter-append (is_for p k) s.state.sends made), count_by-append test (filter (is_for p k) s.state.sends) (filter (is_for p k) made)))
+      omega (arith, was, zero_count, ap (λ xs. count_by test (filter (is_transported_to p k) xs)) all_sends, ap (count_by test) (filter-append (is_transported_to p k) s.state.sends made), count_by-append test (filter (is_transported_to p k) s.state.sends) (filter (is_transported_to p k) made)))
       (λ j ne u v test. (good.base.sound.split j k u v).counts test) j in
       record {
         fronts = each_one (λ k v. k < length p.federates → AreFront p k v) a.all i q (λ l. front) (λ k ne l. good.base.sound.fronts k l);
         senders = each_one (λ k v. k < length p.federates → All (λ (m : Message). m.sender < length p.federates) v.received) a.all i q (λ l. good.base.sound.senders i l) (λ k ne l. good.base.sound.senders k l);
         split = λ j k lj lk. record {
           counts = λ test.
-              let P : List Message → Type 0 = λ r. count_by test (filter (is_for p k) (sent_by p j (c.all j))) ≡ count_by test (filter (is_by j) r) + count_by test (a.transit j k) + count_by test (c.waiting j k) in
+              let P : List Message → Type 0 = λ r. count_by test (filter (is_transported_to p k) (sent_by p j (c.all j))) ≡ count_by test (filter (is_by j) r) + count_by test (a.transit j k) + count_by test (c.waiting j k) in
               subst P (sym (got k)) (split j k lj lk test);
         };
         waiting_late = λ j k. each_two (λ j v w. j < length p.federates → k < length p.federates → All (λ (m : Message). promise p j v ≤ m.time) (w k)) a.all a.waiting i q row
             (λ u v. all_of (λ (m : Message). promise p i q ≤ m.time) (row k) (λ m h.
-            held_late p f i q m li (made_held i done d m li sends (subst (Among m) is_made (filter_among (is_for p k) m made h).0))))
+            held_late p f i q m li (made_held i done d m li sends (subst (Among m) is_made (filter_among (is_transported_to p k) m made h).0))))
             (λ j ne u v. good.base.sound.waiting_late j k u v) j;
       }

@@ -19,7 +19,7 @@ use Rattle.kit_parts.proofs.Due.{is_held}
 use Rattle.kit_parts.proofs.Agreement.{due_parts}
 use Rattle.kit_parts.proofs.Whole.{one_key}
 use Rattle.kit_rules.specs.Simulation.{simulation}
-use Rattle.kit_parts.specs.Fronts.{is_for}
+use Rattle.kit_parts.specs.Fronts.{is_transported_to}
 use Rattle.kit_parts.proofs.Filtering.{Up, up_put, filter_same, filter_both}
 
 -- the queue by time
@@ -82,7 +82,7 @@ due_is_received_law p i d got received m c =
 
 pub copies_are_transported_law : CopiesAreTransported
 copies_are_transported_law p i sends =
-    filter_same (is_for p i) (λ m. has_bit (receivers_of p m.sender m.group) i && is_transported p m) sends (λ m a. swapped (is_transported p m) (has_bit (receivers_of p m.sender m.group) i))
+    filter_same (is_transported_to p i) (λ m. has_bit (receivers_of p m.sender m.group) i && is_transported p m) sends (λ m a. swapped (is_transported p m) (has_bit (receivers_of p m.sender m.group) i))
     ∙ filter_both (λ m. has_bit (receivers_of p m.sender m.group) i) (is_transported p) sends
   where
     swapped : (a b : Bool) → (a && b) ≡ (b && a)

@@ -7,7 +7,7 @@ use Rattle.kit_rules.specs.Federation.{IsFederation}
 use Rattle.kit_rules.specs.Delivery.{pending_messages}
 use Rattle.kit_rules.specs.Simulation.{Seat, Block, seat_at_start, request_at, seat_due}
 use Rattle.kit_rules.proofs.Lookaheads.{lookahead_is_positive}
-use Rattle.kit_laws.specs.Sane.{time_of}
+use Rattle.kit_laws.proofs.Sane.{time_of}
 use Rattle.kit_laws.proofs.Pendings.{due_capped}
 use Rattle.kit_laws.proofs.Sanity.{request_capped}
 use Rattle.kit_parts.specs.Fronts.{seat_with, seat_from, seat_after}

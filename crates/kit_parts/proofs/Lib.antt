@@ -34,3 +34,4 @@ pub mod Itself
 pub mod Least
 pub mod Sending
 pub mod Granting
+pub mod Reaching

@@ -7,7 +7,7 @@ use Rattle.kit_base.specs.declared.message.Message.{Message}
 use Rattle.kit_rules.specs.Parts.{Parts, effective_lookahead}
 use Rattle.kit_rules.specs.Federation.{IsFederation}
 use Rattle.kit_rules.specs.Simulation.{Block}
-use Rattle.kit_parts.specs.Fronts.{seat_after, Progress}
+use Rattle.kit_parts.specs.Fronts.{seat_after, Standing}
 use Rattle.kit_parts.specs.Promises.{promise, promise_after}
 use Rattle.kit_parts.specs.Cuts.{AreSound, Carries}
 use Rattle.kit_parts.specs.Flows.{Moment, Bounds}
@@ -23,7 +23,7 @@ abbrev pub Next : Parts → Moment → Moment → Type 0
 Next p a c = Carries p a.all a.transit a.waiting c.all c.transit
 
 -- what waits is held back by its sender
-pub record HeldBack (p : Parts) (j : ℕ) (q : Progress) (m : Message) : Type 0 where
+pub record HeldBack (p : Parts) (j : ℕ) (q : Standing) (m : Message) : Type 0 where
   pub waits : q.waits ≡ true
   pub done : List Block
   pub is : q.done ≡ Some done
@@ -36,14 +36,14 @@ pub record Good (p : Parts) (a : Moment) : Type 0 where
   pub ahead : (j : ℕ) → j < length p.federates → (done : List Block) → (a.all j).done ≡ Some done → (known : ℕ) × ((seat_after p j done).now < known) × Bounds p known a
 
 -- it is timed the promise or later
-pub held_late : (p : Parts) (f : IsFederation p) (j : ℕ) (q : Progress) (m : Message) → j < length p.federates → HeldBack p j q m → promise p j q ≤ m.time
+pub held_late : (p : Parts) (f : IsFederation p) (j : ℕ) (q : Standing) (m : Message) → j < length p.federates → HeldBack p j q m → promise p j q ≤ m.time
 held_late p f j q m lt h =
     let P : Bool → Type 0 = λ w. promise_after p j w q.received q.done ≤ m.time in
     let Q : Option (List Block) → Type 0 = λ o. promise_after p j true q.received o ≤ m.time in
     subst P (sym h.waits) (subst Q (sym h.is) (omega (arith, waiting_keeps_promise_law p f j lt q.received h.done, h.late)))
 
 -- a federate of which nothing waits
-pub none_held : (p : Parts) (j : ℕ) (q : Progress) (xs : List Message) → q.waits ≡ false → ((m : Message) → Among m xs → HeldBack p j q m) → xs ≡ []
+pub none_held : (p : Parts) (j : ℕ) (q : Standing) (xs : List Message) → q.waits ≡ false → ((m : Message) → Among m xs → HeldBack p j q m) → xs ≡ []
 none_held p j q [] idle held = refl
 none_held p j q (x ∷ xs) idle held = absurd (both_ways q.waits idle (held x (inl refl)).waits)
 

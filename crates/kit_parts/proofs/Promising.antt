@@ -16,7 +16,7 @@ use Rattle.kit_rules.specs.Step.{opening_state}
 use Rattle.kit_rules.specs.Delivery.{is_pending, pending_messages, due_messages, due_time}
 use Rattle.kit_rules.specs.Simulation.{Seat, Block, block, seat_at_start, seat_at, seat_due, request_at}
 use Rattle.kit_rules.proofs.Lookaheads.{lookahead_is_positive}
-use Rattle.kit_laws.specs.Sane.{time_of}
+use Rattle.kit_laws.proofs.Sane.{time_of}
 use Rattle.kit_laws.proofs.Pendings.{From, gone, due_from, earliest_low, pending_before_sent}
 use Rattle.kit_laws.proofs.Rising.{grants}
 use Rattle.kit_parts.specs.Fronts.{seat_with, seat_after}

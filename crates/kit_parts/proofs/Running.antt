@@ -8,7 +8,7 @@ use Rattle.kit_base.specs.declared.message.Message.{Message}
 use Rattle.kit_rules.specs.Parts.{Parts, effective_lookahead}
 use Rattle.kit_rules.specs.Federation.{IsFederation}
 use Rattle.kit_rules.specs.Simulation.{Seat, Block, lines_of, seat_at_start}
-use Rattle.kit_parts.specs.Fronts.{seat_with, seat_after, part, IsFront, is_for}
+use Rattle.kit_parts.specs.Fronts.{seat_with, seat_after, part, IsFront, is_transported_to}
 use Rattle.kit_parts.specs.Flows.{Moment, Bounds, progress, opening, after_start, after_post, after_receipt, after_last_post, due_block, after_grant, Step, starts, posts, receives, settles, grants, Flow, still, goes, FlowsKeepBounds, FlowsAgree, FlowsAreLawful, EndsAgree, blocks_done, done_by, EndsMakeTheText}
 use Rattle.kit_rules.specs.Text.{history_text}
 use Rattle.kit_rules.proofs.Lookaheads.{lookahead_is_positive}
@@ -34,8 +34,8 @@ step_bounded p f g (grants a i done known li is idle below k due) = carried p a 
 -- what waits is held back after it
 step_held : (p : Parts) (f : IsFederation p) {a b : Moment} → Good p a → Step p a b → (j k : ℕ) → j < length p.federates → k < length p.federates → (m : Message) → Among m (b.waiting j k) → HeldBack p j (b.all j) m
 step_held p f g (starts a i lt none) j k =
-    each_two (λ j v w. j < length p.federates → k < length p.federates → (m : Message) → Among m (w k) → HeldBack p j v m) a.all a.waiting i (progress (Some []) true (a.all i).received) (λ j. filter (is_for p j) (seat_at_start p i).state.sends)
-    (λ li lk m h. record { waits = refl; done = []; is = refl; late = (let l = one_of (λ (x : Message). effective_lookahead p i ≤ x.time) (seat_at_start p i).state.sends m (starts_send_late_law p f i li) (filter_among (is_for p k) m (seat_at_start p i).state.sends h).0 in omega arith) })
+    each_two (λ j v w. j < length p.federates → k < length p.federates → (m : Message) → Among m (w k) → HeldBack p j v m) a.all a.waiting i (progress (Some []) true (a.all i).received) (λ j. filter (is_transported_to p j) (seat_at_start p i).state.sends)
+    (λ li lk m h. record { waits = refl; done = []; is = refl; late = (let l = one_of (λ (x : Message). effective_lookahead p i ≤ x.time) (seat_at_start p i).state.sends m (starts_send_late_law p f i li) (filter_among (is_transported_to p k) m (seat_at_start p i).state.sends h).0 in omega arith) })
     (λ j ne lj lk m h. g.held j k lj lk m h) j
 step_held p f g (posts a i j before m after li lj is) k l =
     pair (λ k l t w. k < length p.federates → l < length p.federates → (x : Message) → Among x w → HeldBack p k (a.all k) x) a.transit a.waiting i j (a.transit i j ++ m ∷ []) (before ++ after)
@@ -55,8 +55,8 @@ step_held p f g (grants a i done known li is idle below b due) j k =
     let made = drop (length s.state.sends) (seat_with p i d s).state.sends in
     let sends = grants_send_late_law p f i li d s in
     let is_made : made ≡ sends.made = ap (drop (length s.state.sends)) sends.sends ∙ drop-append_seam s.state.sends sends.made in
-    each_two (λ j v w. j < length p.federates → k < length p.federates → (m : Message) → Among m (w k) → HeldBack p j v m) a.all a.waiting i (progress (Some (done ++ d ∷ [])) true (a.all i).received) (λ j. filter (is_for p j) made)
-    (λ u v m h. made_held p f a g i done d m li sends (subst (Among m) is_made (filter_among (is_for p k) m made h).0))
+    each_two (λ j v w. j < length p.federates → k < length p.federates → (m : Message) → Among m (w k) → HeldBack p j v m) a.all a.waiting i (progress (Some (done ++ d ∷ [])) true (a.all i).received) (λ j. filter (is_transported_to p j) made)
+    (λ u v m h. made_held p f a g i done d m li sends (subst (Among m) is_made (filter_among (is_transported_to p k) m made h).0))
     (λ j ne lj lk m h. g.held j k lj lk m h) j
 
 -- each federate's time is below a bound

@@ -13,7 +13,7 @@ use Rattle.kit_rules.specs.Simulation.{World, Seat, Block, seat_at, nobody_seate
 use Rattle.kit_laws.proofs.Least.{next_stands}
 use Rattle.kit_laws.proofs.Pendings.{From}
 use Rattle.kit_laws.proofs.Rising.{grants}
-use Rattle.kit_parts.specs.Fronts.{seat_after, blocks_of, part, IsFront, Progress, sent_by, sends_after, AreFront}
+use Rattle.kit_parts.specs.Fronts.{seat_after, blocks_of, part, IsFront, Standing, sent_by, sends_after, AreFront}
 use Rattle.kit_parts.specs.Promises.{promise_after, seat_promise, promise_at}
 use Rattle.kit_parts.specs.Cuts.{Cut}
 use Rattle.kit_parts.specs.Laws.{NobodySendsBelow, AllIsHeard}
@@ -26,13 +26,13 @@ use Rattle.kit_parts.proofs.Whole.{sender_has, sender_within, send_is, front_sen
 use Rattle.kit_parts.proofs.Due.{pending_among, among_pending, due_no_later, pending_there}
 
 -- federate j of a world is not past its front, of which these are the blocks
-pub record Within (p : Parts) (j : ℕ) (q : Progress) (w : World) : Type 0 where
+pub record Within (p : Parts) (j : ℕ) (q : Standing) (w : World) : Type 0 where
   pub blocks : List Block
   pub done : q.done ≡ Some blocks
   pub short : length (blocks_of j w.blocks) ≤ length blocks
 
 -- all that is sent in a world and timed below the bound is in the fronts, and who is past its front sends no more below it
-pub record Safe (p : Parts) (bound : ℕ) (all : ℕ → Progress) (w : World) : Type 0 where
+pub record Safe (p : Parts) (bound : ℕ) (all : ℕ → Standing) (w : World) : Type 0 where
   pub sent : (m : Message) → Among m w.messages → m.time < bound → Among m (sent_by p m.sender (all m.sender))
   pub each : (j : ℕ) → j < length p.federates → Within p j (all j) w ⊎ (bound ≤ (seat_at w j).now + effective_lookahead p j)
 
@@ -54,7 +54,7 @@ short_front p j xs ys fx fy le =
     take_drop (suc n) (x ∷ xs) = ap (λ ys. x ∷ ys) (take_drop n xs)
 
 -- what a federate within its front sent is among what its front sent
-pub within_sent : (p : Parts) (last : ℕ × ℕ) (w : World) (n j : ℕ) (q : Progress) (m : Message) → OnWay p last w → after_grants p n w ≡ simulation p → j < length p.federates → AreFront p j q → Within p j q w
+pub within_sent : (p : Parts) (last : ℕ × ℕ) (w : World) (n j : ℕ) (q : Standing) (m : Message) → OnWay p last w → after_grants p n w ≡ simulation p → j < length p.federates → AreFront p j q → Within p j q w
     → Among m (seat_at w j).state.sends → Among m (sent_by p j q)
 within_sent p last w n j q m way goes lt front within a =
     let F : Option (List Block) → Type 0 = λ o. IfSome o (IsFront p j) in
@@ -65,7 +65,7 @@ within_sent p last w n j q m way goes lt front within a =
     let R : Option (List Block) → Type 0 = λ o. Among m (sends_after p j o) in
     subst R (sym within.done) (subst Q (sym more.1) (after_more p j (blocks_of j w.blocks) more.0 m (subst P (way.seats j lt) a)))
 
-module _ (p : Parts) (f : IsFederation p) (bound : ℕ) (all : ℕ → Progress) (cut : Cut p bound all) where
+module _ (p : Parts) (f : IsFederation p) (bound : ℕ) (all : ℕ → Standing) (cut : Cut p bound all) where
   -- whatever was received is of the simulation
   pub received_real : (i : ℕ) → i < length p.federates → (r : Message) → Among r (all i).received → Among r (simulation p).messages
   received_real i lt r a =

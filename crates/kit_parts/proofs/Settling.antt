@@ -15,7 +15,7 @@ use Rattle.kit_parts.proofs.Agreement.{due_from_parts}
 use Rattle.kit_parts.proofs.Whole.{message_later, retraction_same}
 use Rattle.kit_rules.specs.Simulation.{Seat, Block, seat_at, seat_at_start, simulation}
 use Rattle.kit_laws.proofs.Pendings.{any_left}
-use Rattle.kit_parts.specs.Cuts.{Heard}
+use Rattle.kit_parts.specs.Cuts.{HasAllBelow}
 use Rattle.kit_parts.proofs.Seats.{from_append}
 use Rattle.kit_parts.proofs.Ways.{next_block}
 use Rattle.kit_parts.proofs.Sent.{Comes, comes, front_next, seat_then, later_sent}
@@ -43,7 +43,7 @@ got_before p i xs b m h =
     any_left (is_same m) (seat_after p i xs).got b.delivered (subst P (from_append p i (seat_at_start p i) xs (b ∷ [])) h)
 
 -- after a block nothing is pending that is timed its time or less
-ahead_of_block : (p : Parts) (i bound : ℕ) (received : List Message) (xs : List Block) → IsFederation p → i < length p.federates → (heard : Heard p bound i received) → (c : Comes p i xs) → c.due < bound
+ahead_of_block : (p : Parts) (i bound : ℕ) (received : List Message) (xs : List Block) → IsFederation p → i < length p.federates → (heard : HasAllBelow p bound i received) → (c : Comes p i xs) → c.due < bound
     → (m : Message) → Among m received → Held p i (seat_after p i (xs ++ next_block p c.world (c.due, i) ∷ [])).got received m → m.time ≤ c.due → ⊥
 ahead_of_block p i bound received xs f lt heard c below m a h le =
     let g : ℕ × ℕ = (c.due, i) in

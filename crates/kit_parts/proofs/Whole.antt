@@ -9,7 +9,7 @@ use Rattle.kit_rules.specs.Parts.{Parts, effective_lookahead}
 use Rattle.kit_rules.specs.Federation.{IsFederation}
 use Rattle.kit_rules.specs.Delivery.{retracts, receivers_of, has_bit}
 use Rattle.kit_rules.specs.Simulation.{Seat, Block, World, seat_at, nobody_seated, world_at_start, world_after_pair, next_grant, next_world, after_grants, simulation}
-use Rattle.kit_parts.specs.Fronts.{seat_after, blocks_of, part, IsFront, is_by, is_for}
+use Rattle.kit_parts.specs.Fronts.{seat_after, blocks_of, part, IsFront, is_by, is_transported_to}
 use Rattle.kit_parts.proofs.Among.{Among, among_filter, filter_among, Distinct}
 use Rattle.kit_parts.proofs.Seats.{sound_after, after_more, numbered_one, numbered_distinct, retracts_facts, retraction_like}
 use Rattle.kit_rules.specs.Parts.{federate_at, effective_lookahead}
@@ -131,7 +131,7 @@ retraction_group p m r f in_m in_r e =
     retraction_like m.sender (seat_after p m.sender (part p m.sender)).state m r (sound_after p m.sender (part p m.sender) f om.0) om.1 (subst P s o.1) e
 
 -- so it is for the same federates
-pub retraction_same : (p : Parts) (m r : Message) → IsFederation p → Among m (simulation p).messages → Among r (simulation p).messages → retracts m r ≡ true → (r.time ≡ m.time) × ((i : ℕ) → is_for p i r ≡ is_for p i m)
+pub retraction_same : (p : Parts) (m r : Message) → IsFederation p → Among m (simulation p).messages → Among r (simulation p).messages → retracts m r ≡ true → (r.time ≡ m.time) × ((i : ℕ) → is_transported_to p i r ≡ is_transported_to p i m)
 retraction_same p m r f in_m in_r e =
     let s : r.sender ≡ m.sender = (retracts_facts m r e).1 in
     let like = retraction_group p m r f in_m in_r e in (

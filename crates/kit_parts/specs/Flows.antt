@@ -7,13 +7,13 @@ use Rattle.kit_rules.specs.Federation.{IsFederation}
 use Rattle.kit_rules.specs.Delivery.{due_messages}
 use Rattle.kit_rules.specs.Simulation.{Block, block, lines_of, seat_at_start, seat_due}
 use Rattle.kit_rules.specs.Text.{history_text, simulation_text}
-use Rattle.kit_parts.specs.Fronts.{seat_with, seat_after, part, is_for, Progress}
+use Rattle.kit_parts.specs.Fronts.{seat_with, seat_after, part, is_transported_to, Standing}
 use Rattle.kit_parts.specs.Cuts.{AreBounded}
 use Rattle.kit_parts.specs.Merging.{IsMerge}
 
 -- how far each federate is, and for each sender and receiver what is posted and not received, and what is to be posted
 pub record Moment : Type 0 where
-  pub all : ℕ → Progress
+  pub all : ℕ → Standing
   pub transit : ℕ → ℕ → List Message
   pub waiting : ℕ → ℕ → List Message
 
@@ -30,7 +30,7 @@ abbrev pub with_pair : (ℕ → ℕ → List Message) → ℕ → ℕ → List M
 with_pair f i j xs = with_one f i (with_one (f i) j xs)
 
 -- a progress of these parts
-abbrev pub progress : Option (List Block) → Bool → List Message → Progress
+abbrev pub progress : Option (List Block) → Bool → List Message → Standing
 progress done waits received = record { done = done; waits = waits; received = received }
 
 -- nobody has started
@@ -42,7 +42,7 @@ abbrev pub after_start : Parts → Moment → ℕ → Moment
 after_start p a i = record {
   all = with_one a.all i (progress (Some []) true (a.all i).received);
   transit = a.transit;
-  waiting = with_one a.waiting i (λ j. filter (is_for p j) (seat_at_start p i).state.sends);
+  waiting = with_one a.waiting i (λ j. filter (is_transported_to p j) (seat_at_start p i).state.sends);
 }
 
 -- what waited between these was posted by i to j
@@ -75,7 +75,7 @@ after_grant p a i done =
     record {
       all = with_one a.all i (progress (Some (done ++ b ∷ [])) true (a.all i).received);
       transit = a.transit;
-      waiting = with_one a.waiting i (λ j. filter (is_for p j) (drop (length s.state.sends) (seat_with p i b s).state.sends));
+      waiting = with_one a.waiting i (λ j. filter (is_transported_to p j) (drop (length s.state.sends) (seat_with p i b s).state.sends));
     }
 
 -- a step of one federate. It is granted a time only below a number that is a bound at that moment.
@@ -120,7 +120,7 @@ blocks_done None = []
 blocks_done (Some done) = done
 
 -- what a federate has done
-abbrev pub done_by : Progress → List Block
+abbrev pub done_by : Standing → List Block
 done_by q = blocks_done q.done
 
 -- once each federate was granted the end, the merge of what they did and the variables that this left make the text of the simulation

@@ -4,6 +4,7 @@ use Rattle.kit_base.specs.declared.message.Message.{Message}
 use Rattle.kit_rules.specs.Parts.{Parts}
 use Rattle.kit_rules.specs.Delivery.{is_transported, has_bit, receivers_of}
 use Rattle.kit_rules.specs.Simulation.{Seat, Block, request_at, seat_at_start, after_block, simulation}
+pub use Rattle.kit_rules.specs.Merging.{blocks_of, is_grant_of}
 
 -- federate i after a block: a grant with its deliveries
 abbrev pub seat_with : Parts → ℕ → Block → Seat → Seat
@@ -20,14 +21,6 @@ seat_from p i s (b ∷ bs) = seat_from p i (seat_with p i b s) bs
 abbrev pub seat_after : Parts → ℕ → List Block → Seat
 seat_after p i done = seat_from p i (seat_at_start p i) done
 
--- whether a block is a grant of federate i
-abbrev pub is_grant_of : ℕ → Block → Bool
-is_grant_of i b = b.federate == i
-
--- the grants of federate i among these
-abbrev pub blocks_of : ℕ → List Block → List Block
-blocks_of i blocks = filter (is_grant_of i) blocks
-
 -- federate i's part of the simulation
 abbrev pub part : Parts → ℕ → List Block
 part p i = blocks_of i (simulation p).blocks
@@ -37,8 +30,8 @@ abbrev pub IsFront : Parts → ℕ → List Block → Type 0
 IsFront p i done = done ≡ take (length done) (part p i)
 
 -- whether a message is transported to federate i
-abbrev pub is_for : Parts → ℕ → Message → Bool
-is_for p i m = is_transported p m && has_bit (receivers_of p m.sender m.group) i
+abbrev pub is_transported_to : Parts → ℕ → Message → Bool
+is_transported_to p i m = is_transported p m && has_bit (receivers_of p m.sender m.group) i
 
 -- whether federate j sent a message
 abbrev pub is_by : ℕ → Message → Bool
@@ -46,13 +39,13 @@ is_by j m = m.sender == j
 
 -- how far a federate is: its blocks, or None where its start's rules have not run; whether sends of it
 -- wait, or it is in the midst of its start or of a grant; and what it received
-pub record Progress : Type 0 where
+pub record Standing : Type 0 where
   pub done : Option (List Block)
   pub waits : Bool
   pub received : List Message
 
 -- its blocks are the first of the part, if it has started
-abbrev pub AreFront : Parts → ℕ → Progress → Type 0
+abbrev pub AreFront : Parts → ℕ → Standing → Type 0
 AreFront p i q = IfSome q.done (IsFront p i)
 
 -- all that it has sent, transported or not
@@ -60,5 +53,5 @@ abbrev pub sends_after : Parts → ℕ → Option (List Block) → List Message
 sends_after p i None = []
 sends_after p i (Some done) = (seat_after p i done).state.sends
 
-abbrev pub sent_by : Parts → ℕ → Progress → List Message
+abbrev pub sent_by : Parts → ℕ → Standing → List Message
 sent_by p i q = sends_after p i q.done

@@ -1,13 +1,13 @@
 -- Laws of a federate's own blocks: their times, their end, and what is outstanding after them.
-use Rattle.std.specs.Prelude.{◌≡◌, ◌≢◌, ℕ, ◌<◌, ◌≤◌, true, List, [], ◌∷◌, ◌++◌, length, count_by, AllPairs, Contains, slice_index_or, ◌+◌}
+use Rattle.std.specs.Prelude.{◌≡◌, ◌≢◌, ℕ, ◌<◌, ◌≤◌, true, List, [], ◌∷◌, ◌++◌, length, count_by, AllPairs, Contains, slice_index_or, ◌+◌, ◌*◌}
 use Rattle.std.specs.List.{All, flat_map}
 use Rattle.kit_base.specs.declared.message.Message.{Message}
 use Rattle.kit_rules.specs.Parts.{Parts}
 use Rattle.kit_rules.specs.Federation.{IsFederation}
 use Rattle.kit_rules.specs.Need.{is_outstanding, need_of}
-use Rattle.kit_rules.specs.Simulation.{Block, after_deliveries, simulation}
-use Rattle.kit_parts.specs.Fronts.{is_for, seat_after, part, IsFront}
-use Rattle.kit_parts.specs.Cuts.{Heard}
+use Rattle.kit_rules.specs.Simulation.{Block, after_deliveries, after_grants, seat_at, simulation, world_at_start}
+use Rattle.kit_parts.specs.Fronts.{is_transported_to, seat_after, part, blocks_of, IsFront}
+use Rattle.kit_parts.specs.Cuts.{HasAllBelow}
 
 -- the grants of a federate rise strictly, from 1 to the end
 abbrev pub PartsRise : Type 0
@@ -23,7 +23,7 @@ EndsAreWhole = (p : Parts) → IsFederation p → (i : ℕ) → i < length p.fed
 
 -- where all is heard below a bound, nothing more comes that is timed below it
 abbrev pub NothingComesLate : Type 0
-NothingComesLate = (p : Parts) → (bound i : ℕ) (received : List Message) → Heard p bound i received → (m : Message) → Contains (simulation p).messages m → is_for p i m ≡ true → (Contains received m → ⊥) → bound ≤ m.time
+NothingComesLate = (p : Parts) → (bound i : ℕ) (received : List Message) → HasAllBelow p bound i received → (m : Message) → Contains (simulation p).messages m → is_transported_to p i m ≡ true → (Contains received m → ⊥) → bound ≤ m.time
 
 -- what a federate has outstanding after any of its blocks is not more than its need
 abbrev pub NeedCovers : Type 0
@@ -61,3 +61,23 @@ SendsGrow = (p : Parts) (i : ℕ) (first rest : List Block) → (more : List Mes
 -- what was delivered to a federate is what its blocks deliver
 abbrev pub GotIsDelivered : Type 0
 GotIsDelivered = (p : Parts) (i : ℕ) (done : List Block) → (seat_after p i done).got ≡ flat_map (λ (b : Block). b.delivered) done
+
+-- what its whole part leads to is what the simulation leaves at a federate
+abbrev pub WholePartsAreSeats : Type 0
+WholePartsAreSeats = (p : Parts) → IsFederation p → (i : ℕ) → i < length p.federates → seat_at (simulation p) i ≡ seat_after p i (part p i)
+
+-- after so many of the simulation's grants, the federate's are these blocks, and it stands where they lead to
+pub record IsReached (p : Parts) (i : ℕ) (done : List Block) : Type 0 where
+  pub grants : ℕ
+  pub within : grants ≤ length p.federates * p.end
+  pub blocks : blocks_of i (after_grants p grants (world_at_start p)).blocks ≡ done
+  pub seat : seat_at (after_grants p grants (world_at_start p)) i ≡ seat_after p i done
+
+-- so it is with the first blocks of the part
+abbrev pub FrontsAreReached : Type 0
+FrontsAreReached = (p : Parts) → IsFederation p → (i : ℕ) → i < length p.federates → (done : List Block) → IsFront p i done → IsReached p i done
+
+-- and what a federate has sent after them is of the simulation
+abbrev pub FrontsSend : Type 0
+FrontsSend = (p : Parts) → IsFederation p → (i : ℕ) → i < length p.federates → (done : List Block) → IsFront p i done
+    → (m : Message) → Contains (seat_after p i done).state.sends m → Contains (simulation p).messages m × (m.sender ≡ i)

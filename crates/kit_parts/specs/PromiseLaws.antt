@@ -9,9 +9,9 @@ use Rattle.kit_rules.specs.Federation.{IsFederation}
 use Rattle.kit_rules.specs.Step.{state_after}
 use Rattle.kit_rules.specs.Delivery.{due_messages}
 use Rattle.kit_rules.specs.Simulation.{Seat, Block, block, seat_at_start, seat_due}
-use Rattle.kit_parts.specs.Fronts.{seat_with, seat_after, IsFront, Progress}
+use Rattle.kit_parts.specs.Fronts.{seat_with, seat_after, IsFront, Standing}
 use Rattle.kit_parts.specs.Promises.{promise_after, promise, promise_time, GoesOn}
-use Rattle.kit_parts.specs.Cuts.{Heard}
+use Rattle.kit_parts.specs.Cuts.{HasAllBelow}
 
 -- what is added to a federate's sends is timed t or later
 pub record AddsFrom (t : ℕ) (old new : List Message) : Type 0 where
@@ -51,7 +51,7 @@ PostKeepsPromise = (p : Parts) (i : ℕ) (received : List Message) (done : List 
 
 -- as it is where all is heard below a bound that is later than now
 abbrev pub DueIsAhead : Type 0
-DueIsAhead = (p : Parts) → IsFederation p → (bound i : ℕ) → i < length p.federates → (received : List Message) → Heard p bound i received → (done : List Block) → IsFront p i done
+DueIsAhead = (p : Parts) → IsFederation p → (bound i : ℕ) → i < length p.federates → (received : List Message) → HasAllBelow p bound i received → (done : List Block) → IsFront p i done
     → (seat_after p i done).now < p.end → (seat_after p i done).now < bound → (seat_after p i done).now < seat_due p received i (seat_after p i done)
 
 -- a receipt leaves at least the least of the promise, the message's time and 1, and the end and 1
@@ -66,6 +66,6 @@ PromisesAreCapped = (p : Parts) (i : ℕ) (waits : Bool) (received : List Messag
 -- the least of the times by which promises go is below every promise: so where nothing is in transit the federate
 -- that has it can go on
 abbrev pub LeastIsBelow : Type 0
-LeastIsBelow = (p : Parts) → IsFederation p → (all : ℕ → Progress) (i : ℕ) → i < length p.federates → GoesOn p i (all i)
+LeastIsBelow = (p : Parts) → IsFederation p → (all : ℕ → Standing) (i : ℕ) → i < length p.federates → GoesOn p i (all i)
     → ((j : ℕ) → j < length p.federates → GoesOn p j (all j) → promise_time p i (all i) ≤ promise_time p j (all j))
     → (j : ℕ) → j < length p.federates → promise_time p i (all i) < promise p j (all j)

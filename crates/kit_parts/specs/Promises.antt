@@ -3,7 +3,7 @@ use Rattle.std.specs.Prelude.{ℕ, ◌+◌, nat_lt, min, Bool, true, if◌then�
 use Rattle.kit_base.specs.declared.message.Message.{Message}
 use Rattle.kit_rules.specs.Parts.{Parts, effective_lookahead}
 use Rattle.kit_rules.specs.Simulation.{Seat, Block, seat_due}
-use Rattle.kit_parts.specs.Fronts.{seat_after, Progress}
+use Rattle.kit_parts.specs.Fronts.{seat_after, Standing}
 
 -- the promise below the end: by now while sends wait, and else by the due time, but no further than the end and 1
 abbrev pub promise_at : ℕ → ℕ → ℕ → ℕ → Bool → ℕ
@@ -19,7 +19,7 @@ promise_after p i waits received None = promise_at p.end (effective_lookahead p 
 promise_after p i waits received (Some done) = seat_promise p i waits received (seat_after p i done)
 
 -- the promise of a federate as far as it is
-abbrev pub promise : Parts → ℕ → Progress → ℕ
+abbrev pub promise : Parts → ℕ → Standing → ℕ
 promise p i q = promise_after p i q.waits q.received q.done
 
 -- the time by which a promise goes: 0 before the start, now while sends wait, and else the due time
@@ -27,9 +27,9 @@ abbrev pub time_after : Parts → ℕ → Bool → List Message → Option (List
 time_after p i waits received None = 0
 time_after p i waits received (Some done) = if waits then (seat_after p i done).now else seat_due p received i (seat_after p i done)
 
-abbrev pub promise_time : Parts → ℕ → Progress → ℕ
+abbrev pub promise_time : Parts → ℕ → Standing → ℕ
 promise_time p i q = time_after p i q.waits q.received q.done
 
 -- the federate was not granted the end
-abbrev pub GoesOn : Parts → ℕ → Progress → Type 0
+abbrev pub GoesOn : Parts → ℕ → Standing → Type 0
 GoesOn p i q = IfSome q.done (λ done. (seat_after p i done).now < p.end)

@@ -10,8 +10,8 @@ use Rattle.kit_rules.specs.Federation.{IsFederation}
 use Rattle.kit_rules.specs.Step.{is_event}
 use Rattle.kit_rules.specs.Delivery.{is_pending, pending_messages, is_transported, has_bit, receivers_of, retracts, due_time, due_messages}
 use Rattle.kit_rules.specs.Simulation.{Block, simulation, Seat, seat_due, block}
-use Rattle.kit_parts.specs.Fronts.{is_for, seat_after, IsFront}
-use Rattle.kit_parts.specs.Cuts.{Heard}
+use Rattle.kit_parts.specs.Fronts.{is_transported_to, seat_after, IsFront}
+use Rattle.kit_parts.specs.Cuts.{HasAllBelow}
 
 -- the pending Events of federate i, in the order of delivery
 abbrev pub queue_of : Parts → ℕ → List Message → List Message → List Message
@@ -66,7 +66,7 @@ DueIsReceived = (p : Parts) (i d : ℕ) (got received : List Message) (m : Messa
 
 -- copies for federate i are the transported messages of which it is a receiver
 abbrev pub CopiesAreTransported : Type 0
-CopiesAreTransported = (p : Parts) (i : ℕ) (sends : List Message) → filter (is_for p i) sends ≡ filter (λ m. has_bit (receivers_of p m.sender m.group) i) (filter (is_transported p) sends)
+CopiesAreTransported = (p : Parts) (i : ℕ) (sends : List Message) → filter (is_transported_to p i) sends ≡ filter (λ m. has_bit (receivers_of p m.sender m.group) i) (filter (is_transported p) sends)
 
 -- no two Retractions of one sender name the same
 abbrev pub RetractedOnce : Type 0
@@ -75,12 +75,12 @@ RetractedOnce = (p : Parts) → IsFederation p → (a b : Message) → Contains 
 
 -- where all is heard below a bound, what stands in the queue and is timed below it is never taken back
 abbrev pub SettledIsSafe : Type 0
-SettledIsSafe = (p : Parts) → IsFederation p → (bound i : ℕ) (got received : List Message) → Heard p bound i received → (m : Message) → Contains (queue_of p i got received) m → m.time < bound
+SettledIsSafe = (p : Parts) → IsFederation p → (bound i : ℕ) (got received : List Message) → HasAllBelow p bound i received → (m : Message) → Contains (queue_of p i got received) m → m.time < bound
     → (r : Message) → Contains (simulation p).messages r → retracts m r ≡ true → ⊥
 
 -- and where that bound is later than now, all that stands in the queue is timed later than now
 abbrev pub QueueIsAhead : Type 0
-QueueIsAhead = (p : Parts) → IsFederation p → (bound i : ℕ) → i < length p.federates → (received : List Message) → Heard p bound i received → (done : List Block) → IsFront p i done → (seat_after p i done).now < bound
+QueueIsAhead = (p : Parts) → IsFederation p → (bound i : ℕ) → i < length p.federates → (received : List Message) → HasAllBelow p bound i received → (done : List Block) → IsFront p i done → (seat_after p i done).now < bound
     → (m : Message) → Contains (queue_of p i (seat_after p i done).got received) m → (seat_after p i done).now < m.time
 
 -- the time of the first of these, but no later than t
@@ -93,21 +93,21 @@ abbrev pub DueByFirst : Type 0
 DueByFirst = (p : Parts) (i t : ℕ) (got received : List Message) → due_time (Ner t) (pending_messages p i got received) ≡ first_by t (queue_of p i got received)
 
 -- when a request is due by the queue
-abbrev pub due_of : Request → List Message → ℕ
-due_of (Tar t) queue = t
-due_of (Ner t) queue = first_by t queue
+abbrev pub due_by_queue : Request → List Message → ℕ
+due_by_queue (Tar t) queue = t
+due_by_queue (Ner t) queue = first_by t queue
 
 -- the due time of a federate is that by its queue
 abbrev pub DueByQueue : Type 0
-DueByQueue = (p : Parts) (i : ℕ) (received : List Message) (s : Seat) → seat_due p received i s ≡ due_of s.request (queue_of p i s.got received)
+DueByQueue = (p : Parts) (i : ℕ) (received : List Message) (s : Seat) → seat_due p received i s ≡ due_by_queue s.request (queue_of p i s.got received)
 
 -- so a grant that is due below what is heard, with what stands first in the queue, is the simulation's next block
 abbrev pub GrantsAgreeByQueue : Type 0
-GrantsAgreeByQueue = (p : Parts) → IsFederation p → (bound i : ℕ) → i < length p.federates → (received : List Message) → Heard p bound i received → (done : List Block) → IsFront p i done
-    → let s = seat_after p i done in let queue = queue_of p i s.got received in let d = due_of s.request queue in
+GrantsAgreeByQueue = (p : Parts) → IsFederation p → (bound i : ℕ) → i < length p.federates → (received : List Message) → HasAllBelow p bound i received → (done : List Block) → IsFront p i done
+    → let s = seat_after p i done in let queue = queue_of p i s.got received in let d = due_by_queue s.request queue in
     s.now < p.end → d < bound → IsFront p i (done ++ block i d (filter (λ m. nat_le m.time d) queue) ∷ [])
 
 -- an Event for federate i that shares its sender and number with nothing that was delivered is pending, unless it was taken back
 abbrev pub NewIsPending : Type 0
-NewIsPending = (p : Parts) (i : ℕ) (got received : List Message) (m : Message) → is_event m.kind ≡ true → is_for p i m ≡ true → ((x : Message) → Contains got x → x.sender ≡ m.sender → x.number ≡ m.number → ⊥)
+NewIsPending = (p : Parts) (i : ℕ) (got received : List Message) (m : Message) → is_event m.kind ≡ true → is_transported_to p i m ≡ true → ((x : Message) → Contains got x → x.sender ≡ m.sender → x.number ≡ m.number → ⊥)
     → is_pending p i got received m ≡ not (list_any (retracts m) received)

@@ -1,6 +1,6 @@
 //! Laws of a federate's own blocks: their times, their end, what is outstanding after them.
 
-ghost use Rattle.kit_parts.specs.OwnLaws.{PartsRise, PartsEnd, EndsAreWhole, NothingComesLate, NeedCovers, NeedHolds, SpentAgrees, SpentAmong, SendsAreNumbered, SendsGrow, GotIsDelivered};
+ghost use Rattle.kit_parts.specs.OwnLaws.{PartsRise, PartsEnd, EndsAreWhole, NothingComesLate, NeedCovers, NeedHolds, SpentAgrees, SpentAmong, SendsAreNumbered, SendsGrow, GotIsDelivered, WholePartsAreSeats, FrontsAreReached, FrontsSend};
 
 /// The grants of a federate rise strictly, from 1 to the end time.
 pub fn parts_rise()
@@ -56,4 +56,20 @@ pub fn sends_grow()
 /// What was delivered to a federate is what its blocks deliver.
 pub fn got_is_delivered()
     ensures { GotIsDelivered }
+{}
+
+/// What the whole part of a federate leads to is what the simulation leaves at it.
+pub fn whole_parts_are_seats()
+    ensures { WholePartsAreSeats }
+{}
+
+/// The first blocks of a federate's part are those that it has in the simulation after so many
+/// grants, and it stands there where they lead to.
+pub fn fronts_are_reached()
+    ensures { FrontsAreReached }
+{}
+
+/// What a federate has sent after the first blocks of its part is of the simulation.
+pub fn fronts_send()
+    ensures { FrontsSend }
 {}

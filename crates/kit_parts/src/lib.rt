@@ -10,18 +10,16 @@ mod promises;
 mod queues;
 
 pub use blocks::{
-    ends_are_whole, got_is_delivered, need_covers, need_holds, nothing_comes_late, parts_end,
-    parts_rise, sends_are_numbered, sends_grow, spent_agrees, spent_among,
+    ends_are_whole, fronts_are_reached, fronts_send, got_is_delivered, need_covers, need_holds,
+    nothing_comes_late, parts_end, parts_rise, sends_are_numbered, sends_grow, spent_agrees,
+    spent_among, whole_parts_are_seats,
 };
 pub use bounds::{
     all_is_heard, bounds_are_cuts, bounds_carry, grants_agree, lists_are_split, nobody_sends_below,
     nobody_sends_to_itself, what_comes_is_new, what_waits_is_new,
 };
 pub use flows::{ends_agree, ends_make_the_text, flows_agree, flows_are_lawful, flows_keep_bounds};
-pub use merges::{
-    merge_ends, merge_goes_on, merge_starts, one_merge, parts_are_part, parts_make_the_text,
-    parts_merge,
-};
+pub use merges::{one_merge, parts_are_part, parts_make_the_text, parts_merge};
 pub use promises::{
     due_is_ahead, grant_keeps_promise, grants_send_late, least_is_below, post_keeps_promise,
     promises_are_capped, receipt_keeps_promise, start_keeps_promise, starts_send_late,

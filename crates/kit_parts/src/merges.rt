@@ -1,6 +1,6 @@
 //! Laws of the merge of parts by grant time and federate.
 
-ghost use Rattle.kit_parts.specs.Merging.{OneMerge, PartsMerge, PartsMakeTheText, MergeStarts, MergeGoesOn, MergeEnds, PartsArePart};
+ghost use Rattle.kit_parts.specs.Merging.{OneMerge, PartsMerge, PartsMakeTheText, PartsArePart};
 
 /// There is one list of blocks in the order of grant time and federate that has given parts.
 pub fn one_merge()
@@ -15,21 +15,6 @@ pub fn parts_merge()
 /// The merge of all parts and the variables that they leave make the simulation's text.
 pub fn parts_make_the_text()
     ensures { PartsMakeTheText }
-{}
-
-/// Before anything was taken of any parts, a merge of them is under way.
-pub fn merge_starts()
-    ensures { MergeStarts }
-{}
-
-/// A merge goes on with the first block of a part that comes before those of the others.
-pub fn merge_goes_on()
-    ensures { MergeGoesOn }
-{}
-
-/// Where nothing is left of any part, what was taken is the merge of the parts.
-pub fn merge_ends()
-    ensures { MergeEnds }
 {}
 
 /// The parts of the simulation are blocks of their federates whose times rise.

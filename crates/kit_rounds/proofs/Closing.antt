@@ -4,7 +4,7 @@ use Rattle.std.specs.List.{All}
 use Rattle.std.proofs.lemmas.Bool.{cases_lt, lt-ltb, false≢true}
 use Rattle.kit_rounds.specs.Ledgers.{Stamp, Copy, Ledger, at_round}
 use Rattle.kit_rounds.specs.Channels.{IsUnreceived, passing}
-use Rattle.kit_rounds.specs.Rounds.{HasContributed, result_of, run_of, HasEnded}
+use Rattle.kit_rounds.specs.Rounds.{HasContributed, result_of, run_of, EndsRun}
 use Rattle.kit_rounds.specs.Rule.{IsOldTimed, IsNewTimed, received_after, IsBelow, IsBound, IsLasting, RoundRule}
 use Rattle.kit_rounds.specs.Laws.{is_old_stamp, FullRoundsClose}
 use Rattle.kit_rounds.proofs.Sums.{term_at_most}
@@ -24,19 +24,19 @@ module _ (n done : ℕ) (ledgers : ℕ → Ledger) (rule : RoundRule n ledgers d
   counts j lt = elim (rule.rounds.counted j lt) [ inl e ↦ absurd (omega (arith, e, full j lt)) | inr e ↦ e ]
 
   -- where the sums are equal, no old copy came late and none is on its way
-  none_late : HasEnded n ledgers done → (j : ℕ) → j < n → All (λ (x : Copy). is_old_stamp run x.stamp ≡ false) (received_after (ledgers j) done)
+  none_late : EndsRun n ledgers done → (j : ℕ) → j < n → All (λ (x : Copy). is_old_stamp run x.stamp ≡ false) (received_after (ledgers j) done)
   none_late e j lt =
       none_counts (λ (x : Copy). is_old_stamp run x.stamp) (received_after (ledgers j) done)
       (omega (arith, e, full_round_balances n ledgers done done rule full, term_at_most (λ j. passing (is_old_stamp run) (received_after (ledgers j) done)) n j lt))
 
-  none_old : HasEnded n ledgers done → (i j : ℕ) (s : Stamp) → i < n → j < n → IsUnreceived ledgers i j s → run ≤ s.colour
+  none_old : EndsRun n ledgers done → (i j : ℕ) (s : Stamp) → i < n → j < n → IsUnreceived ledgers i j s → run ≤ s.colour
   none_old e i j s lt there un = elim (cases_lt s.colour run) [
     | inl old ↦ absurd (none_on_way (is_old_stamp run) n ledgers i j s rule.channels lt there (omega (arith, e, full_round_balances n ledgers done done rule full)) (lt-ltb s.colour run old) un)
     | inr ge ↦ ge
   ]
 
   -- so the low is below all
-  below : HasEnded n ledgers done → IsBelow n run ledgers done low
+  below : EndsRun n ledgers done → IsBelow n run ledgers done low
   below e = record {
     lows = λ j lt has. result_low_le (λ j. (at_round (ledgers j) done).share) n j lt;
     posts = λ j lt out. absurd (omega (arith, full j lt, out));
@@ -45,7 +45,7 @@ module _ (n done : ℕ) (ledgers : ℕ → Ledger) (rule : RoundRule n ledgers d
         (λ x new old. absurd (false≢true (sym new ∙ lt-ltb x.stamp.colour run old))) (none_late e j lt);
   }
 
-  pub bounds : HasEnded n ledgers done → IsBound n ledgers low
+  pub bounds : EndsRun n ledgers done → IsBound n ledgers low
   bounds e =
       let above = rule.current low (below e) in
       record {
@@ -78,7 +78,7 @@ module _ (n done : ℕ) (ledgers : ℕ → Ledger) (rule : RoundRule n ledgers d
     };
     bound = λ k lt e. elim (cases_lt k done) [
       | inl less ↦ rule.bound k less e
-      | inr ge ↦ let is : done ≡ k = omega arith in subst (λ m. HasEnded n ledgers m → IsBound n ledgers (result_of n ledgers m).low) is bounds e
+      | inr ge ↦ let is : done ≡ k = omega arith in subst (λ m. EndsRun n ledgers m → IsBound n ledgers (result_of n ledgers m).low) is bounds e
     ];
     lasting = λ k lt e. elim (cases_lt k done) [
       | inl less ↦ rule.lasting k less e

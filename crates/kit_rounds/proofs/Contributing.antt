@@ -9,7 +9,7 @@ use Rattle.kit_model.specs.Counts.{old_count}
 use Rattle.kit_rounds.specs.declared.contribution.Contribution.{Contribution}
 use Rattle.kit_rounds.specs.Ledgers.{Stamp, Copy, Ledger, nothing, colours, at_round, last_run, IsChanged}
 use Rattle.kit_rounds.specs.Channels.{is_copy, posts_of, receipts_of, Channels}
-use Rattle.kit_rounds.specs.Rounds.{HasContributed, result_of, run_of, HasEnded, IsFaithful, RoundsAt}
+use Rattle.kit_rounds.specs.Rounds.{HasContributed, result_of, run_of, EndsRun, IsFaithful, RoundsAt}
 use Rattle.kit_rounds.specs.Rule.{IsTimed, IsOldTimed, IsNewTimed, received_after, IsBelow, IsAbove, IsBound, IsLasting, RoundRule}
 use Rattle.kit_rounds.specs.Steps.{with_contribution, Contributes}
 use Rattle.kit_rounds.specs.Laws.{ContributionsKeep}
@@ -183,10 +183,10 @@ module _ (n i done : ℕ) (c : Contribution) (ledgers after : ℕ → Ledger) (r
         (λ j lt. subst (All (λ (x : Copy). x.stamp.colour ≤ run_of n ledgers done)) (sym (posted j)) (rule.newest j lt));
     current = subst (λ r. (w : ℕ) → IsBelow n r after done w → IsAbove n r after done w) (sym (run_same done (omega arith))) current;
     bound = λ k lt e.
-        let ended : HasEnded n ledgers k = subst (λ (s : Share). s.out ≡ s.inn) (results k lt) e in
+        let ended : EndsRun n ledgers k = subst (λ (s : Share). s.out ≡ s.inn) (results k lt) e in
         subst (λ (s : Share). IsBound n after s.low) (sym (results k lt)) (bound _ (rule.bound k lt ended));
     lasting = λ k lt e.
-        let ended : HasEnded n ledgers k = subst (λ (s : Share). s.out ≡ s.inn) (results k lt) e in
+        let ended : EndsRun n ledgers k = subst (λ (s : Share). s.out ≡ s.inn) (results k lt) e in
         subst₂ (λ r (s : Share). IsLasting n after r s.low) (sym (run_same k (omega arith))) (sym (results k lt)) (lasting _ _ (rule.bound k lt ended) (rule.lasting k lt ended));
   }
 

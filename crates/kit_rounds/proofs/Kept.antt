@@ -8,7 +8,7 @@ use Rattle.kit_model.specs.Blocks.{round_result}
 use Rattle.kit_rounds.specs.declared.contribution.Contribution.{Contribution}
 use Rattle.kit_rounds.specs.Ledgers.{Copy, Ledger, nothing, at_round, last_run}
 use Rattle.kit_rounds.specs.Channels.{Channels}
-use Rattle.kit_rounds.specs.Rounds.{HasContributed, result_of, run_after, run_of, HasEnded, IsFaithful, RoundsAt}
+use Rattle.kit_rounds.specs.Rounds.{HasContributed, result_of, run_after, run_of, EndsRun, IsFaithful, RoundsAt}
 use Rattle.kit_rounds.specs.Rule.{received_after, IsNewTimed, IsBelow, IsAbove, IsBound, IsLasting, RoundRule}
 
 -- the contributions of everybody stay
@@ -70,7 +70,7 @@ pub record Keeping (n : ℕ) (ledgers after : ℕ → Ledger) (done : ℕ) : Typ
 pub rule_kept : (n : ℕ) (ledgers after : ℕ → Ledger) (done : ℕ) → RoundRule n ledgers done → Keeping n ledgers after done → RoundRule n after done
 rule_kept n ledgers after done rule k =
     let results = same_results n ledgers after k.same in
-    let ended : (l : ℕ) → HasEnded n after l → HasEnded n ledgers l = λ l. subst (λ (s : Share). s.out ≡ s.inn) (results l) in
+    let ended : (l : ℕ) → EndsRun n after l → EndsRun n ledgers l = λ l. subst (λ (s : Share). s.out ≡ s.inn) (results l) in
     record {
       channels = k.channels;
       rounds = rounds_kept n ledgers after done k.same k.colour k.faithful rule.rounds;

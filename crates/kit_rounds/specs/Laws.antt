@@ -6,7 +6,7 @@ use Rattle.kit_model.specs.Counts.{is_old}
 use Rattle.kit_rounds.specs.declared.contribution.Contribution.{Contribution}
 use Rattle.kit_rounds.specs.Ledgers.{Stamp, Copy, Ledger, in_list, at_round, IsChanged}
 use Rattle.kit_rounds.specs.Channels.{posts_of, receipts_of, same_stamp, Channel, IsUnreceived, Channels, stamps_with, passing, all_posts, all_receipts, all_on_way}
-use Rattle.kit_rounds.specs.Rounds.{HasContributed, result_of, run_after, run_of, HasEnded}
+use Rattle.kit_rounds.specs.Rounds.{HasContributed, result_of, run_after, run_of, EndsRun}
 use Rattle.kit_rounds.specs.Rule.{received_after, IsBound, RoundRule}
 use Rattle.kit_rounds.specs.Steps.{Posts, Receives, Rises, Contributes}
 
@@ -56,7 +56,7 @@ FullRoundsClose = (n done : ℕ) (ledgers : ℕ → Ledger) → RoundRule n ledg
 -- where the sums of a full round are equal, its low is a bound
 abbrev pub EqualSumsBound : Type 0
 EqualSumsBound = (n done : ℕ) (ledgers : ℕ → Ledger) → RoundRule n ledgers done → ((j : ℕ) → j < n → HasContributed (ledgers j) done)
-    → HasEnded n ledgers done → IsBound n ledgers (result_of n ledgers done).low
+    → EndsRun n ledgers done → IsBound n ledgers (result_of n ledgers done).low
 
 -- the low is the greatest number that is at most each contribution's low
 abbrev pub LowIsGreatest : Type 0
@@ -65,7 +65,7 @@ LowIsGreatest = (n k v : ℕ) (ledgers : ℕ → Ledger) → 0 < n
 
 -- bounds do not fall from one run to a later one
 abbrev pub BoundsRise : Type 0
-BoundsRise = (n done k l : ℕ) (ledgers : ℕ → Ledger) → 0 < n → RoundRule n ledgers done → k < l → l < done → HasEnded n ledgers k → HasEnded n ledgers l
+BoundsRise = (n done k l : ℕ) (ledgers : ℕ → Ledger) → 0 < n → RoundRule n ledgers done → k < l → l < done → EndsRun n ledgers k → EndsRun n ledgers l
     → (result_of n ledgers k).low ≤ (result_of n ledgers l).low
 
 -- the rule holds of ledgers with no entry

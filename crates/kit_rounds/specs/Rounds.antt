@@ -22,8 +22,8 @@ abbrev pub run_of : ℕ → (ℕ → Ledger) → ℕ → ℕ
 run_of n ledgers k = run_after (result_of n ledgers) k
 
 -- a run ended with this round
-abbrev pub HasEnded : ℕ → (ℕ → Ledger) → ℕ → Type 0
-HasEnded n ledgers k = (result_of n ledgers k).out ≡ (result_of n ledgers k).inn
+abbrev pub EndsRun : ℕ → (ℕ → Ledger) → ℕ → Type 0
+EndsRun n ledgers k = (result_of n ledgers k).out ≡ (result_of n ledgers k).inn
 
 -- a contribution counts what was old when it was made, and nothing posted later is old for it
 pub record IsFaithful (l : Ledger) (c : Contribution) : Type 0 where

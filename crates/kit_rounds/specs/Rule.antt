@@ -2,7 +2,7 @@
 use Rattle.std.specs.Prelude.{◌≡◌, ℕ, ◌<◌, ◌≤◌, All, List, length, drop}
 use Rattle.kit_rounds.specs.Ledgers.{Stamp, Copy, Ledger, at_round}
 use Rattle.kit_rounds.specs.Channels.{IsUnreceived, Channels}
-use Rattle.kit_rounds.specs.Rounds.{HasContributed, result_of, run_of, HasEnded, RoundsAt}
+use Rattle.kit_rounds.specs.Rounds.{HasContributed, result_of, run_of, EndsRun, RoundsAt}
 
 -- a copy of the run's colour, an older one, a newer one is timed w or more
 abbrev pub IsTimed : ℕ → ℕ → Copy → Type 0
@@ -45,5 +45,5 @@ pub record RoundRule (n : ℕ) (ledgers : ℕ → Ledger) (done : ℕ) : Type 0 
   pub rounds : RoundsAt n ledgers done
   pub newest : (j : ℕ) → j < n → All (λ c. c.stamp.colour ≤ run_of n ledgers done) (ledgers j).posted
   pub current : (w : ℕ) → IsBelow n (run_of n ledgers done) ledgers done w → IsAbove n (run_of n ledgers done) ledgers done w
-  pub bound : (k : ℕ) → k < done → HasEnded n ledgers k → IsBound n ledgers (result_of n ledgers k).low
-  pub lasting : (k : ℕ) → k < done → HasEnded n ledgers k → IsLasting n ledgers (run_of n ledgers k) (result_of n ledgers k).low
+  pub bound : (k : ℕ) → k < done → EndsRun n ledgers k → IsBound n ledgers (result_of n ledgers k).low
+  pub lasting : (k : ℕ) → k < done → EndsRun n ledgers k → IsLasting n ledgers (run_of n ledgers k) (result_of n ledgers k).low
