@@ -7,7 +7,7 @@ use Rattle.kit_ground.specs.declared.place.Place.{Place}
 use Rattle.kit_ground.specs.Sets.{sum_to}
 use Rattle.kit_ground.proofs.Lists.{at_inside}
 use Rattle.kit_ground.proofs.Sums.{sum_at_most, sum_change, sum_zero}
-use Rattle.kit_pool.specs.Seating.{Held}
+use Rattle.kit_pool.specs.Seating.{DeskIsOwned}
 
 -- a sum that is as great as it can be
 pub sum_full : (f : ℕ → ℕ) (n : ℕ) → ((j : ℕ) → j < n → f j ≤ 1) → sum_to f n ≡ n → (j : ℕ) → j < n → f j ≡ 1
@@ -42,21 +42,21 @@ module _ {V : Type 0} where
   amount_none k (p ∷ ps) e = absurd (omega arith)
 
   module _ (all : List (Place V)) (owner : ℕ → ℕ × ℕ) (seat : ℕ) where
-    none_behind : (k x : ℕ) (ps : List (Place V)) → owner k ≡ (seat, x) → length ps ≤ x → Held all owner seat ps → amount k ps ≡ 0
+    none_behind : (k x : ℕ) (ps : List (Place V)) → owner k ≡ (seat, x) → length ps ≤ x → DeskIsOwned all owner seat ps → amount k ps ≡ 0
     none_behind k x [] of short h = amount_none k [] refl
     none_behind k x (p ∷ ps) of short h =
         let other : p.own.number ≢ k = λ e. let same : length ps ≡ x = ap (λ (y : ℕ × ℕ). y.1) (sym h.1 ∙ (ap owner e ∙ of)) in absurd (omega arith) in
         amount_else k p ps other ∙ none_behind k x ps of (omega arith) h.2
 
     -- no federate has two places in one seat
-    pub amount_once : (k : ℕ) (desk : List (Place V)) → Held all owner seat desk → amount k desk ≤ 1
+    pub amount_once : (k : ℕ) (desk : List (Place V)) → DeskIsOwned all owner seat desk → amount k desk ≤ 1
     amount_once k [] h = let e = amount_none k [] refl in omega arith
     amount_once k (p ∷ ps) h = dite (ℕ_discrete p.own.number k)
         (λ same. let e = amount_here k p ps same in let short : length ps ≤ length ps = omega arith in let z = none_behind k (length ps) ps (ap owner (sym same) ∙ h.1) short h.2 in omega arith)
         (λ other. let e = amount_else k p ps other in let i = amount_once k ps h.2 in omega arith)
 
     -- all together are as many as there are places
-    pub amount_all : (desk : List (Place V)) → Held all owner seat desk → sum_to (λ k. amount k desk) (length all) ≡ length desk
+    pub amount_all : (desk : List (Place V)) → DeskIsOwned all owner seat desk → sum_to (λ k. amount k desk) (length all) ≡ length desk
     amount_all [] h = sum_zero (λ k. amount k []) (length all) (λ j lj. amount_none j [] refl)
     amount_all (p ∷ ps) h =
         let m : ℕ = p.own.number in
@@ -67,5 +67,5 @@ module _ {V : Type 0} where
         omega arith
 
     -- so where they are as many as the federates, each federate is among them
-    pub amount_each : (desk : List (Place V)) → Held all owner seat desk → length desk ≡ length all → (k : ℕ) → k < length all → amount k desk ≡ 1
+    pub amount_each : (desk : List (Place V)) → DeskIsOwned all owner seat desk → length desk ≡ length all → (k : ℕ) → k < length all → amount k desk ≡ 1
     amount_each desk h many = sum_full (λ k. amount k desk) (length all) (λ j lj. amount_once j desk h) (amount_all desk h ∙ many)

@@ -6,8 +6,8 @@ use native.Mathlib.Decide.{ℕ_discrete}
 use lib.ListN.{get_elem?}
 use Rattle.atomic_table.proofs.Lists.{drop_at}
 use Rattle.kit_ground.specs.declared.place.Place.{Place}
-use Rattle.kit_pool.specs.Seating.{Held}
-use Rattle.kit_floor.specs.Accounts.{in_order, in_order_from, place_number}
+use Rattle.kit_pool.specs.Seating.{DeskIsOwned}
+use Rattle.kit_floor.specs.Accounts.{places_in_order, places_in_order_from, place_number}
 use Rattle.kit_floor.proofs.Counting.{amount, amount_each, amount_else, amount_none}
 
 there : {A : Type 0} (l : List A) (i : ℕ) → i < length l → (a : A) × (get_elem? l i ≡ some a)
@@ -22,7 +22,7 @@ dropped (x ∷ xs) zero e = absurd (omega arith)
 dropped (x ∷ xs) (suc k) e = dropped xs k (omega arith)
 
 module _ {V : Type 0} (all : List (Place V)) (owner : ℕ → ℕ × ℕ) (seat : ℕ) where
-  place_is : (k : ℕ) (q : Place V) (desk : List (Place V)) → Held all owner seat desk → amount k desk ≡ 1 → get_elem? all k ≡ some q → place_number k desk ≡ q ∷ []
+  place_is : (k : ℕ) (q : Place V) (desk : List (Place V)) → DeskIsOwned all owner seat desk → amount k desk ≡ 1 → get_elem? all k ≡ some q → place_number k desk ≡ q ∷ []
   place_is k q [] h one at = let z : amount k [] ≡ 0 = amount_none {V = V} k [] refl in let o : amount {V = V} k [] ≡ 1 = one in absurd (omega (arith, z, o))
   place_is k q (p ∷ ps) h one at = dite (ℕ_discrete p.own.number k)
       (λ same. ap (λ (t : Bool). if t then p ∷ [] else place_number k ps) (eq-eqb p.own.number k same)
@@ -30,14 +30,14 @@ module _ {V : Type 0} (all : List (Place V)) (owner : ℕ → ℕ × ℕ) (seat 
       (λ other. ap (λ (t : Bool). if t then p ∷ [] else place_number k ps) (ne_eqb p.own.number k other)
       ∙ place_is k q ps h.2 (sym (amount_else k p ps other) ∙ one) at)
 
-  from_here : (desk : List (Place V)) → Held all owner seat desk → length desk ≡ length all → (m k : ℕ) → k + m ≡ length all → in_order_from k m desk ≡ drop k all
+  from_here : (desk : List (Place V)) → DeskIsOwned all owner seat desk → length desk ≡ length all → (m k : ℕ) → k + m ≡ length all → places_in_order_from k m desk ≡ drop k all
   from_here desk h many zero k e = sym (dropped all k (omega arith))
   from_here desk h many (suc m) k e =
       let t = there all k (omega arith) in
       let next : k + 1 ≡ suc k = omega arith in
       let rest = from_here desk h many m (k + 1) (omega arith) in
-      ap (λ l. l ++ in_order_from (k + 1) m desk) (place_is k t.0 desk h (amount_each all owner seat desk h many k (omega arith)) t.1)
+      ap (λ l. l ++ places_in_order_from (k + 1) m desk) (place_is k t.0 desk h (amount_each all owner seat desk h many k (omega arith)) t.1)
       ∙ (ap (λ l. t.0 ∷ l) (rest ∙ ap (λ (i : ℕ). drop i all) next) ∙ sym (drop_at all k t.0 t.1))
 
-  pub all_in_order : (desk : List (Place V)) → Held all owner seat desk → length desk ≡ length all → in_order (length all) desk ≡ all
+  pub all_in_order : (desk : List (Place V)) → DeskIsOwned all owner seat desk → length desk ≡ length all → places_in_order (length all) desk ≡ all
   all_in_order desk h many = let start : 0 + length all ≡ length all = omega arith in from_here desk h many (length all) 0 start

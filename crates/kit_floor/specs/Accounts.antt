@@ -20,10 +20,10 @@ module _ {V : Type 0} where
   place_number k (p ∷ ps) = if p.own.number == k then p ∷ [] else place_number k ps
 
   -- the places of m federates, from k on
-  abbrev pub in_order_from : ℕ → ℕ → List (Place V) → List (Place V)
-  in_order_from k zero desk = []
-  in_order_from k (suc m) desk = place_number k desk ++ in_order_from (k + 1) m desk
+  abbrev pub places_in_order_from : ℕ → ℕ → List (Place V) → List (Place V)
+  places_in_order_from k zero desk = []
+  places_in_order_from k (suc m) desk = place_number k desk ++ places_in_order_from (k + 1) m desk
 
   -- the places of n federates, in their order
-  abbrev pub in_order : ℕ → List (Place V) → List (Place V)
-  in_order n desk = in_order_from 0 n desk
+  abbrev pub places_in_order : ℕ → List (Place V) → List (Place V)
+  places_in_order n desk = places_in_order_from 0 n desk

@@ -1,2 +1,4 @@
 pub mod Standing
+pub mod Joining
 pub mod Accounts
+pub mod FloorViews

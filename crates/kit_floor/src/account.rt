@@ -49,9 +49,9 @@ struct AllPlaces<P> {
 }
 
 impl<P: Protocol> Reads<Ending<P>, LinkedList<Place<P::View>>> for AllPlaces<P> {
-    ghost use Rattle.kit_floor.specs.Accounts.{in_order};
+    ghost use Rattle.kit_floor.specs.Accounts.{places_in_order};
 
-    ghost read = { λ e. in_order e.federates e.all.seat.me.0 };
+    ghost read = { λ e. places_in_order e.federates e.all.seat.me.0 };
 }
 
 impl<P: Protocol> FloorAccount<P> {

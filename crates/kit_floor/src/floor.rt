@@ -1,15 +1,11 @@
 //! The floor, and its seats.
-ghost use Rattle.std.specs.Prelude.{◌≡◌, ℕ, ◌<◌, ◌≤◌, [], length, replicate, IfOk};
-ghost use mathlib.Core.Option.{some};
-ghost use lib.ListN.{get_elem?};
+ghost use Rattle.std.specs.Prelude.{◌≡◌, ◌<◌, ◌≤◌, [], length, replicate, IfOk};
 ghost use Rattle.kit_ground.specs.Layout.{size_of};
-ghost use Rattle.kit_ground.specs.Rules.{zero_memory, places_at_first};
-ghost use Rattle.kit_ground.specs.Words.{RuledWords};
-ghost use Rattle.kit_pool.specs.Seating.{place_in};
-ghost use Rattle.kit_pool.specs.Seats.{IsNewSeat, IsSized};
+ghost use Rattle.kit_pool.specs.Seats.{IsSized};
 
 use crate::{FloorAccount, FloorGround};
 use kit_ground::Protocol;
+use kit_known::Known;
 use kit_pool::{Front, SeatingTable, TableSeat, gather, lay};
 use std::alloc::{AllocError, Global};
 
@@ -29,7 +25,7 @@ pub struct TableFloor<P: Protocol> {
     federates: u8,
     buffers: u16,
     ghost laid: { (table.shared.key.federates ≡ federates) × (table.shared.key.buffers ≡ buffers) },
-    ghost some: { (1 ≤ federates) × (federates ≤ 16) × (buffers ≤ 1024) × (0 < table.shared.table_id.words) },
+    ghost some: { (1 ≤ federates) × (federates ≤ 16) × (1 ≤ buffers) × (buffers ≤ 1024) × (0 < table.shared.table_id.words) },
     ghost sized: { IsSized [] table.shared.key.federates table.shared.key.buffers table.shared.table_id },
 }
 
@@ -50,6 +46,13 @@ fn zeros(alloc: Global, federates: u8, buffers: u16) -> Result<Vec<u64>, AllocEr
 }
 
 impl<P: Protocol> TableFloor<P> {
+    ghost use Rattle.std.specs.Prelude.{◌≡◌, ℕ, ◌≤◌, length, IfOk};
+    ghost use mathlib.Core.Option.{some};
+    ghost use lib.ListN.{get_elem?};
+    ghost use Rattle.kit_ground.specs.Rules.{zero_memory, places_at_first};
+    ghost use Rattle.kit_ground.specs.Words.{RuledWords};
+    ghost use Rattle.kit_floor.specs.FloorViews.{CanStand, IsNewSeatOf, buffers_of, federates_of, opening_of, place_of};
+
     /// A floor whose words are 0, with the client's opening, and its seats in the order of the
     /// federates.
     ///
@@ -58,14 +61,16 @@ impl<P: Protocol> TableFloor<P> {
         alloc: Global,
         federates: u8,
         buffers: u16,
-        opening: &P::Opening,
+        opening: &Known<P::Opening>,
     ) -> Result<(TableFloor<P>, Vec<TableSeat<P>>), AllocError>
         requires federates { (1 ≤ federates) × (federates ≤ 16) }
-        requires buffers { buffers ≤ 1024 }
-        requires rule { P.rule.holds zero_memory (places_at_first (P.first opening.now) federates buffers) }
-        ensures floor { IfOk result (λ r. (r.0.table.shared.key.federates ≡ federates) × (r.0.table.shared.key.buffers ≡ buffers) × (r.0.table.shared.key.opening.value ≡ opening.now)) }
+        requires buffers { (1 ≤ buffers) × (buffers ≤ 1024) }
+        requires rule { P.rule.holds zero_memory (places_at_first (P.first opening.now.value) federates buffers) }
+        ensures federates { IfOk result (λ r. federates_of r.0 ≡ federates) }
+        ensures buffers { IfOk result (λ r. buffers_of r.0 ≡ buffers) }
+        ensures opening { IfOk result (λ r. opening_of r.0 ≡ opening.now.value) }
         ensures many { IfOk result (λ r. length r.1.items ≡ federates) }
-        ensures seats { IfOk result (λ r. (k : ℕ) (s : _) → get_elem? r.1.items k ≡ some s → IsNewSeat (P.first opening.now) federates buffers k r.0.table.shared.table_id s.number s.federates s.buffers s.seat.table_id s.seat.me.0) }
+        ensures seats { IfOk result (λ r. (k : ℕ) (s : _) → get_elem? r.1.items k ≡ some s → IsNewSeatOf P.first r.0 k s) }
     {
         let words = zeros(alloc, federates, buffers)?;
         let (table, seats) = lay::<P, Whole>(alloc, words.as_slice(), federates, buffers, opening)?;
@@ -81,21 +86,20 @@ impl<P: Protocol> TableFloor<P> {
 
     /// Seats a federate on the floor.
     pub fn stand(&self, seat: TableSeat<P>) -> FloorGround<'_, P>
-        requires of_it { seat.seat.table_id ≡ self.now.table.shared.table_id }
-        requires laid { (self.now.table.shared.key.federates ≡ seat.federates) × (self.now.table.shared.key.buffers ≡ seat.buffers) }
-        requires alone { length seat.seat.me.0 ≡ 1 }
-        ensures { (result.seat ≡ seat) × (result.floor.now ≡ self.now) }
+        requires { CanStand self.now seat }
+        ensures seat { result.seat ≡ seat }
+        ensures floor { result.floor.now ≡ self.now }
     {
         FloorGround { floor: self, seat }
     }
 
     /// Takes all seats in, whatever their order is. No thread shares the floor any more.
     pub fn close(self, seats: Vec<TableSeat<P>>) -> FloorAccount<P>
-        requires count { length seats.items ≡ self.table.shared.key.federates }
-        requires seats { (k : ℕ) (s : _) → get_elem? seats.items k ≡ some s → (s.seat.table_id ≡ self.table.shared.table_id) × (s.federates ≡ self.table.shared.key.federates) × (length s.seat.me.0 ≡ 1) }
-        ensures buffers { result.buffers ≡ self.table.shared.key.buffers }
-        ensures many { length result.places ≡ self.table.shared.key.federates }
-        ensures each { (k : ℕ) (s : _) → get_elem? seats.items k ≡ some s → get_elem? result.places s.number ≡ some (place_in (P.first self.table.shared.key.opening.value) s.seat.me.0) }
+        requires count { length seats.items ≡ federates_of self }
+        requires seats { (k : ℕ) (s : _) → get_elem? seats.items k ≡ some s → CanStand self s }
+        ensures buffers { result.buffers ≡ buffers_of self }
+        ensures many { length result.places ≡ federates_of self }
+        ensures each { (k : ℕ) (s : _) → get_elem? seats.items k ≡ some s → let p = place_of P.first self s in get_elem? result.places p.own.number ≡ some p }
         ensures rules { RuledWords P.rule result.buffers result.words result.places }
     {
         let TableFloor {

@@ -9,3 +9,6 @@ pub use account::FloorAccount;
 pub use floor::{TableFloor, Whole};
 pub use kit_pool::TableSeat as FloorSeat;
 pub use stand::FloorGround;
+
+#[cfg(test)]
+mod tests;

@@ -1,6 +1,5 @@
 //! A seat that stands on its floor.
-ghost use Rattle.std.specs.Prelude.{◌≡◌, length};
-ghost use Rattle.kit_pool.specs.Seating.{place_in};
+ghost use Rattle.kit_floor.specs.FloorViews.{CanStand};
 
 use crate::{TableFloor, Whole};
 use kit_ground::{Address, Deed, Event, Ground, Protocol, Reg, mail_bit, mail_word};
@@ -12,18 +11,17 @@ use std::marker::Brand;
 pub struct FloorGround<'a, P: Protocol> {
     pub(crate) floor: &'a TableFloor<P>,
     pub(crate) seat: TableSeat<P>,
-    ghost of_it: { seat.seat.table_id ≡ floor.now.table.shared.table_id },
-    ghost laid: { (floor.now.table.shared.key.federates ≡ seat.federates) × (floor.now.table.shared.key.buffers ≡ seat.buffers) },
-    ghost alone: { length seat.seat.me.0 ≡ 1 },
+    ghost stands: { CanStand floor.now seat },
 }
 
 impl<P: Protocol> FloorGround<'_, P> {
+    ghost use Rattle.std.specs.Prelude.{◌≡◌};
+    ghost use Rattle.kit_floor.specs.FloorViews.{CanStand};
+
     /// Gives the seat back.
     pub fn leave(self) -> TableSeat<P>
         ensures seat { result ≡ self.entry.seat }
-        ensures alone { length result.seat.me.0 ≡ 1 }
-        ensures of_it { result.seat.table_id ≡ self.entry.floor.now.table.shared.table_id }
-        ensures laid { (self.entry.floor.now.table.shared.key.federates ≡ result.federates) × (self.entry.floor.now.table.shared.key.buffers ≡ result.buffers) }
+        ensures stands { CanStand self.entry.floor.now result }
     {
         let FloorGround { floor: _, seat } = self;
         seat
@@ -31,17 +29,18 @@ impl<P: Protocol> FloorGround<'_, P> {
 }
 
 impl<P: Protocol> Ground for FloorGround<'_, P> {
-    ghost use Rattle.kit_pool.specs.Doing.{DidOn};
-    ghost use Rattle.kit_pool.specs.Seating.{place_in};
-    ghost use Rattle.kit_floor.specs.Standing.{CameOn, came_here, came_on};
+    ghost use Rattle.kit_pool.specs.Doing.{WasAllowedStep};
+    ghost use Rattle.kit_floor.specs.FloorViews.{place_of};
+    ghost use Rattle.kit_floor.specs.Joining.{came_here, came_later, came_on, came_same};
+    ghost use Rattle.kit_floor.specs.Standing.{AreStepsOfSeat};
 
     type Under = P;
 
-    ghost place = { λ g. place_in (P.first g.floor.now.table.shared.key.opening.value) g.seat.seat.me.0 };
+    ghost place = { λ g. place_of P.first g.floor.now g.seat };
 
-    ghost did = { λ g deed h. DidOn P.rule (place_in (P.first g.floor.now.table.shared.key.opening.value) g.seat.seat.me.0) deed (place_in (P.first h.floor.now.table.shared.key.opening.value) h.seat.seat.me.0) };
+    ghost did = { λ g deed h. WasAllowedStep P.rule (place_of P.first g.floor.now g.seat) deed (place_of P.first h.floor.now h.seat) };
 
-    ghost came = { λ g h. CameOn g.floor.now g.seat.number (place_in (P.first g.floor.now.table.shared.key.opening.value) g.seat.seat.me.0) h.floor.now h.seat.number (place_in (P.first h.floor.now.table.shared.key.opening.value) h.seat.seat.me.0) };
+    ghost came = { λ g h. AreStepsOfSeat g.floor.now g.seat.number (place_of P.first g.floor.now g.seat) h.floor.now h.seat.number (place_of P.first h.floor.now h.seat) };
 
     fn me(&self) -> u8 {
         self.seat.number()
@@ -182,7 +181,11 @@ impl<P: Protocol> Ground for FloorGround<'_, P> {
         seat.take_one::<Whole, Brand, E>(&floor.table, at, address, about);
     }
 
-    ghost came_here = { λ g. came_here g.floor.now g.seat.number (place_in (P.first g.floor.now.table.shared.key.opening.value) g.seat.seat.me.0) };
+    ghost came_here = { λ g. came_here g.floor.now g.seat.number (place_of P.first g.floor.now g.seat) };
 
     ghost came_on = { λ g h k a b. came_on g.floor.now g.seat.number _ h.floor.now h.seat.number _ k.floor.now k.seat.number _ a b };
+
+    ghost came_same = { λ g h a. came_same g.floor.now g.seat.number _ h.floor.now h.seat.number _ a };
+
+    ghost came_later = { λ g h a. came_later g.floor.now g.seat.number _ h.floor.now h.seat.number _ a };
 }

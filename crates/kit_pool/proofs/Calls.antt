@@ -8,7 +8,7 @@ use Rattle.kit_ground.specs.Memory.{Memory}
 use Rattle.kit_ground.specs.Rules.{Rule, WasFound}
 use Rattle.kit_ground.specs.Steps.{Allowed, place_after, address_of}
 use Rattle.kit_ground.proofs.WordSteps.{own_there}
-use Rattle.kit_pool.specs.Doing.{DidOn}
+use Rattle.kit_pool.specs.Doing.{WasAllowedStep}
 use Rattle.kit_pool.specs.Seating.{Plans, place_in}
 use Rattle.kit_pool.specs.Seats.{IsOwn, IsWithin}
 use Rattle.kit_pool.proofs.Owning.{own_numbers}
@@ -33,7 +33,7 @@ module _ {V : Type 0} (rule : Rule V) (first : ℕ → V) (number n b : ℕ) (de
   told_at x = subst (λ (y : Address). WasFound rule p y x) e
 
   -- the deed may be named by another number than the word that was found
-  pub did_as : (x y : ℕ) → deed x ≡ deed y → WasFound rule p a y → (q : Place V) → q ≡ place_after next (deed x) p → DidOn rule p (deed x) q
+  pub did_as : (x y : ℕ) → deed x ≡ deed y → WasFound rule p a y → (q : Place V) → q ≡ place_after next (deed x) p → WasAllowedStep rule p (deed x) q
   did_as x y same told q is =
       let t = told_at y told in
       let found : y ≡ t.0 (address_of p.own (deed x)) = sym t.3 ∙ ap t.0 (plan.address x) in
@@ -46,5 +46,5 @@ module _ {V : Type 0} (rule : Rule V) (first : ℕ → V) (number n b : ℕ) (de
         own = ap (λ (r : Place V). r.own) is;
       }
 
-  pub did_at : (x : ℕ) → WasFound rule p a x → (q : Place V) → q ≡ place_after next (deed x) p → DidOn rule p (deed x) q
+  pub did_at : (x : ℕ) → WasFound rule p a x → (q : Place V) → q ≡ place_after next (deed x) p → WasAllowedStep rule p (deed x) q
   did_at x = did_as x x (λ t. deed x)

@@ -4,31 +4,31 @@ use mathlib.Core.Option.{some, some-injective, some-ne-none}
 use lib.ListN.{get_elem?}
 use Rattle.atomic_table.proofs.Lists.{set_else}
 use Rattle.kit_ground.specs.declared.place.Place.{Place}
-use Rattle.kit_pool.specs.Seating.{Held}
+use Rattle.kit_pool.specs.Seating.{DeskIsOwned}
 
 module _ {V : Type 0} where
   -- a seat that has no place with this number keeps its places where that place changes
-  pub held_apart : (all : List (Place V)) (owner : ℕ → ℕ × ℕ) (seat m id : ℕ) (q : Place V) (desk : List (Place V)) → (owner m).0 ≡ id → seat ≢ id → Held all owner seat desk → Held (set all m q) owner seat desk
+  pub held_apart : (all : List (Place V)) (owner : ℕ → ℕ × ℕ) (seat m id : ℕ) (q : Place V) (desk : List (Place V)) → (owner m).0 ≡ id → seat ≢ id → DeskIsOwned all owner seat desk → DeskIsOwned (set all m q) owner seat desk
   held_apart all owner seat m id q [] of apart h = tt
   held_apart all owner seat m id q (p ∷ ps) of apart h =
       let other : p.own.number ≢ m = λ e. apart (ap (λ (x : ℕ × ℕ). x.0) (sym h.1) ∙ (ap (λ (k : ℕ). (owner k).0) e ∙ of)) in
       (set_else all m p.own.number q other ∙ h.0, h.1, held_apart all owner seat m id q ps of apart h.2)
 
   -- and so it is of the places behind the one that changes
-  pub held_behind : (all : List (Place V)) (owner : ℕ → ℕ × ℕ) (seat m k : ℕ) (q : Place V) (ps : List (Place V)) → owner m ≡ (seat, k) → length ps ≤ k → Held all owner seat ps → Held (set all m q) owner seat ps
+  pub held_behind : (all : List (Place V)) (owner : ℕ → ℕ × ℕ) (seat m k : ℕ) (q : Place V) (ps : List (Place V)) → owner m ≡ (seat, k) → length ps ≤ k → DeskIsOwned all owner seat ps → DeskIsOwned (set all m q) owner seat ps
   held_behind all owner seat m k q [] of short h = tt
   held_behind all owner seat m k q (p ∷ ps) of short h =
       let other : p.own.number ≢ m = λ e. let same : length ps ≡ k = ap (λ (x : ℕ × ℕ). x.1) (sym h.1 ∙ (ap owner e ∙ of)) in absurd (omega arith) in
       (set_else all m p.own.number q other ∙ h.0, h.1, held_behind all owner seat m k q ps of (omega arith) h.2)
 
   -- another owner that says of each place of a desk that it lies with `new`, as far in front
-  pub held_with : (all : List (Place V)) (owner now : ℕ → ℕ × ℕ) (seat new : ℕ) (desk : List (Place V)) → ((k r : ℕ) → r < length desk → owner k ≡ (seat, r) → now k ≡ (new, r)) → Held all owner seat desk → Held all now new desk
+  pub held_with : (all : List (Place V)) (owner now : ℕ → ℕ × ℕ) (seat new : ℕ) (desk : List (Place V)) → ((k r : ℕ) → r < length desk → owner k ≡ (seat, r) → now k ≡ (new, r)) → DeskIsOwned all owner seat desk → DeskIsOwned all now new desk
   held_with all owner now seat new [] same h = tt
   held_with all owner now seat new (p ∷ ps) same h = (h.0, same p.own.number (length ps) (omega arith) h.1, held_with all owner now seat new ps (λ k r lt. same k r (omega arith)) h.2)
 
   -- the places of one seat in front of others
   pub held_before : (all : List (Place V)) (owner now : ℕ → ℕ × ℕ) (seat new : ℕ) (desk back : List (Place V)) → ((k r : ℕ) → r < length desk → owner k ≡ (seat, r) → now k ≡ (new, r + length back))
-      → Held all owner seat desk → Held all now new back → Held all now new (desk ++ back)
+      → DeskIsOwned all owner seat desk → DeskIsOwned all now new back → DeskIsOwned all now new (desk ++ back)
   held_before all owner now seat new [] back same h b = b
   held_before all owner now seat new (p ∷ ps) back same h b =
       let r : ℕ = length ps in
@@ -36,7 +36,7 @@ module _ {V : Type 0} where
       (h.0, same p.own.number r (omega arith) h.1 ∙ ap (λ (x : ℕ). (new, x)) len, held_before all owner now seat new ps back (λ k x lt. same k x (omega arith)) h.2 b)
 
   -- a place that a seat has
-  pub held_at : (all : List (Place V)) (owner : ℕ → ℕ × ℕ) (seat : ℕ) (desk : List (Place V)) → Held all owner seat desk → (k : ℕ) (p : Place V) → get_elem? desk k ≡ some p → get_elem? all p.own.number ≡ some p
+  pub held_at : (all : List (Place V)) (owner : ℕ → ℕ × ℕ) (seat : ℕ) (desk : List (Place V)) → DeskIsOwned all owner seat desk → (k : ℕ) (p : Place V) → get_elem? desk k ≡ some p → get_elem? all p.own.number ≡ some p
   held_at all owner seat [] h k p e = absurd (some-ne-none p (sym e))
   held_at all owner seat (q ∷ qs) h zero p e = subst (λ (x : Place V). get_elem? all x.own.number ≡ some x) (some-injective q p e) h.0
   held_at all owner seat (q ∷ qs) h (suc k) p e = held_at all owner seat qs h.2 k p e

@@ -6,7 +6,7 @@ use Rattle.atomic_table.specs.Table.{State, Joins}
 use Rattle.atomic_table.proofs.Lists.{at_set, set_else}
 use Rattle.kit_ground.specs.declared.place.Place.{Place}
 use Rattle.kit_ground.specs.Rules.{Rule}
-use Rattle.kit_pool.specs.Seating.{Held, Seated}
+use Rattle.kit_pool.specs.Seating.{DeskIsOwned, TableHolds}
 use Rattle.kit_pool.specs.Seats.{IsOwn}
 use Rattle.kit_pool.proofs.Holding.{held_before, held_with}
 
@@ -29,8 +29,8 @@ module _ (owner : ℕ → ℕ × ℕ) (other id shift k : ℕ) where
       ∙ ap (λ b. cond b (id, (owner k).1 + shift) (owner k)) (ne_eqb (owner k).0 id e)
 
 module _ {V : Type 0} where
-  join_at : (rule : Rule V) (n b : ℕ) (front ws : List ℕ) (views : List (List (Place V))) (id other : ℕ) (d e : List (Place V)) → Seated rule n b front ws views → get_elem? views id ≡ some d → other ≢ id
-      → get_elem? (set views id (d ++ e)) other ≡ some e → Seated rule n b front ws (set (set views id (d ++ e)) other [])
+  join_at : (rule : Rule V) (n b : ℕ) (front ws : List ℕ) (views : List (List (Place V))) (id other : ℕ) (d e : List (Place V)) → TableHolds rule n b front ws views → get_elem? views id ≡ some d → other ≢ id
+      → get_elem? (set views id (d ++ e)) other ≡ some e → TableHolds rule n b front ws (set (set views id (d ++ e)) other [])
   join_at rule n b front ws views id other d e r at apart there =
       let now : ℕ → ℕ × ℕ = moved r.owner other id (length e) in
       let vs : List (List (Place V)) = set views id (d ++ e) in
@@ -48,16 +48,16 @@ module _ {V : Type 0} where
         many = r.many;
         ruled = r.ruled;
         held = λ seat desk q. ⊎_elim
-            (λ (t : (seat ≡ other) × ([] ≡ desk)). subst (λ (x : List (Place V)). Held r.all now seat x) t.1 tt)
+            (λ (t : (seat ≡ other) × ([] ≡ desk)). subst (λ (x : List (Place V)). DeskIsOwned r.all now seat x) t.1 tt)
             (λ (t : (seat ≢ other) × (get_elem? vs seat ≡ some desk)). ⊎_elim
-            (λ (u : (seat ≡ id) × ((d ++ e) ≡ desk)). subst (λ (x : ℕ × List (Place V)). Held r.all now x.0 x.1) (λ i. (sym u.0 i, u.1 i))
+            (λ (u : (seat ≡ id) × ((d ++ e) ≡ desk)). subst (λ (x : ℕ × List (Place V)). DeskIsOwned r.all now x.0 x.1) (λ i. (sym u.0 i, u.1 i))
             (held_before r.all r.owner now id id d e (λ k x lt. mine k x) (r.held id d at) (held_with r.all r.owner now other id e (λ k x lt. came k x) (r.held other e theirs))))
             (λ (u : (seat ≢ id) × (get_elem? views seat ≡ some desk)). held_with r.all r.owner now seat seat desk (λ k x lt q'. keep k seat x q' t.0 u.0) (r.held seat desk u.1))
             (at_set views id seat (d ++ e) desk t.1))
             (at_set vs other seat [] desk q);
       }
 
-  pub joins : {S : Type 0} (rule : Rule V) (n b : ℕ) (front : List ℕ) (id : ℕ) (d : List (Place V)) (other : ℕ) (e : List (Place V)) → Joins (λ (s : State S (List (Place V))). Seated rule n b front s.words s.views) id d other e (d ++ e) []
+  pub joins : {S : Type 0} (rule : Rule V) (n b : ℕ) (front : List ℕ) (id : ℕ) (d : List (Place V)) (other : ℕ) (e : List (Place V)) → Joins (λ (s : State S (List (Place V))). TableHolds rule n b front s.words s.views) id d other e (d ++ e) []
   joins rule n b front id d other e s r at apart there = join_at rule n b front s.words s.views id other d e r at apart there
 
   own_before : (d e : List (Place V)) → 0 < length d → (get_elem? (d ++ e) 0 ≡ get_elem? d 0) × (0 < length (d ++ e))

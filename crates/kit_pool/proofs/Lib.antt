@@ -5,6 +5,6 @@ pub mod Owning
 pub mod Stepping
 pub mod Splitting
 pub mod Joining
-pub mod Dealing
+pub mod SeatLists
 pub mod PoolWords
 pub mod Calls

@@ -5,7 +5,7 @@ use lib.ListN.{get_elem?}
 use Rattle.kit_ground.specs.declared.place.Deed.{Deed}
 use Rattle.kit_ground.specs.declared.place.Place.{Place}
 use Rattle.kit_ground.specs.Steps.{place_after}
-use Rattle.kit_pool.specs.Seating.{OnOwn, others_of, place_in}
+use Rattle.kit_pool.specs.Seating.{HoldsOfOwnPlace, others_of, place_in}
 use Rattle.kit_pool.specs.Seats.{IsOwn}
 
 module _ {V : Type 0} (first : ℕ → V) where
@@ -18,7 +18,7 @@ module _ {V : Type 0} (first : ℕ → V) where
   own_at [] there = absurd (omega arith)
   own_at (p ∷ ps) there = refl
 
-  pub on_own : (F : Place V → List (Place V) → Type 0) (desk : List (Place V)) → 0 < length desk → OnOwn F desk → F (place_in first desk) (others_of desk)
+  pub on_own : (F : Place V → List (Place V) → Type 0) (desk : List (Place V)) → 0 < length desk → HoldsOfOwnPlace F desk → F (place_in first desk) (others_of desk)
   on_own F [] there h = absurd (omega arith)
   on_own F (p ∷ ps) there h = h
 

@@ -3,10 +3,10 @@ use Rattle.std.proofs.Common.{◌≡◌, ℕ, ◌+◌, ◌*◌, ◌≤◌, lengt
 use Rattle.std.proofs.lemmas.List.{length-replicate}
 use Rattle.kit_ground.specs.declared.address.Address.TheVariants.{Mail, Count, Part}
 use Rattle.kit_ground.specs.Layout.{index_of}
-use Rattle.kit_pool.specs.Pools.{unused}
+use Rattle.kit_pool.specs.Pools.{idle_registers}
 
-pub length-unused : (n : ℕ) → length (unused n) ≡ 13 * n + 1
-unfolding unused
+pub length-unused : (n : ℕ) → length (idle_registers n) ≡ 13 * n + 1
+unfolding idle_registers
 length-unused n = length-replicate {A = ℕ} (13 * n + 1) 0
 
 pub mail_behind : (n b j i w : ℕ) → 13 * n + 1 ≤ index_of n b (Mail j i w)

@@ -10,7 +10,7 @@ use Rattle.kit_ground.specs.Rules.{Rule, zero_memory, own_at_first, places_at_fi
 use Rattle.kit_ground.specs.Words.{RuledWords}
 use Rattle.kit_ground.proofs.PlainOpening.{ruled_opened}
 use Rattle.kit_ground.proofs.Starts.{length_places_from}
-use Rattle.kit_pool.specs.Seating.{Held, Seated, own_of, others_of}
+use Rattle.kit_pool.specs.Seating.{DeskIsOwned, TableHolds, own_of, others_of}
 use Rattle.kit_pool.proofs.Holding.{held_with}
 
 pub at_push : {A : Type 0} (l : List A) (a b : A) (j : ℕ) → get_elem? (l ++ a ∷ []) j ≡ some b → (get_elem? l j ≡ some b) ⊎ ((j ≡ length l) × (a ≡ b))
@@ -36,7 +36,7 @@ module _ {V : Type 0} where
   place_at_first first n b k (suc m) (suc j) h =
       let e : (k + 1) + j ≡ k + suc j = omega arith in place_at_first first n b (k + 1) m j (omega arith) ∙ ap (λ (x : ℕ). some (record { own = own_at_first n b x; client = first x })) e
 
-  held_at_first : (first : ℕ → V) (n b k m : ℕ) → k + m ≡ n → Held (places_at_first first n b) (λ j. (0, n - (j + 1))) 0 (places_from first n b k m)
+  held_at_first : (first : ℕ → V) (n b k m : ℕ) → k + m ≡ n → DeskIsOwned (places_at_first first n b) (λ j. (0, n - (j + 1))) 0 (places_from first n b k m)
   held_at_first first n b k zero e = tt
   held_at_first first n b k (suc m) e =
       let count = length_places_from first n b (k + 1) m in
@@ -49,7 +49,7 @@ module _ {V : Type 0} where
 
   -- the table's rule at the opening, where one seat has all places
   pub opens : (rule : Rule V) (first : ℕ → V) (n b : ℕ) (front ws : List ℕ) → 1 ≤ n → n ≤ 16 → b ≤ 1024 → rule.holds zero_memory (places_at_first first n b) → front ++ ws ≡ replicate (size_of n b) 0
-      → Seated rule n b front ws (places_at_first first n b ∷ [])
+      → TableHolds rule n b front ws (places_at_first first n b ∷ [])
   opens rule first n b front ws positive few small h zeros = record {
     all = places_at_first first n b;
     owner = λ j. (0, n - (j + 1));
@@ -58,13 +58,13 @@ module _ {V : Type 0} where
     held = one;
   }
     where
-      one : (seat : ℕ) (desk : List (Place V)) → get_elem? (places_at_first first n b ∷ []) seat ≡ some desk → Held (places_at_first first n b) (λ j. (0, n - (j + 1))) seat desk
-      one zero desk e = subst (Held (places_at_first first n b) (λ j. (0, n - (j + 1))) 0) (some-injective _ _ e) (held_at_first first n b 0 n (omega arith))
+      one : (seat : ℕ) (desk : List (Place V)) → get_elem? (places_at_first first n b ∷ []) seat ≡ some desk → DeskIsOwned (places_at_first first n b) (λ j. (0, n - (j + 1))) seat desk
+      one zero desk e = subst (DeskIsOwned (places_at_first first n b) (λ j. (0, n - (j + 1))) 0) (some-injective _ _ e) (held_at_first first n b 0 n (omega arith))
       one (suc seat) desk e = absurd (some-ne-none desk (sym e))
 
   module _ (rule : Rule V) (n b : ℕ) (front ws : List ℕ) where
     -- the first place of a desk goes to a new seat
-    split_one : (views : List (List (Place V))) (id : ℕ) (p : Place V) (ps : List (Place V)) → Seated rule n b front ws views → get_elem? views id ≡ some (p ∷ ps) → Seated rule n b front ws (set views id ps ++ (p ∷ []) ∷ [])
+    split_one : (views : List (List (Place V))) (id : ℕ) (p : Place V) (ps : List (Place V)) → TableHolds rule n b front ws views → get_elem? views id ≡ some (p ∷ ps) → TableHolds rule n b front ws (set views id ps ++ (p ∷ []) ∷ [])
     split_one views id p ps r at =
         let m : ℕ = p.own.number in
         let new : ℕ = length views in
@@ -79,17 +79,17 @@ module _ {V : Type 0} where
           ruled = r.ruled;
           held = λ seat desk e. ⊎_elim
               (λ (old : get_elem? (set views id ps) seat ≡ some desk). ⊎_elim
-              (λ (t : (seat ≡ id) × (ps ≡ desk)). subst (λ (x : ℕ × List (Place V)). Held r.all now x.0 x.1) (λ i. (sym t.0 i, t.1 i))
+              (λ (t : (seat ≡ id) × (ps ≡ desk)). subst (λ (x : ℕ × List (Place V)). DeskIsOwned r.all now x.0 x.1) (λ i. (sym t.0 i, t.1 i))
               (held_with r.all r.owner now id id ps (λ k x lt e'. else_owner k id x e' (λ bad. let b : x ≡ length ps = ap (λ (y : ℕ × ℕ). y.1) bad in omega arith)) mine.2))
               (λ (t : (seat ≢ id) × (get_elem? views seat ≡ some desk)). held_with r.all r.owner now seat seat desk (λ k x lt e'. else_owner k seat x e' (λ bad. t.0 (ap (λ (y : ℕ × ℕ). y.0) bad))) (r.held seat desk t.1))
               (at_set views id seat ps desk old))
-              (λ (new' : (seat ≡ length (set views id ps)) × ((p ∷ []) ≡ desk)). subst (λ (x : ℕ × List (Place V)). Held r.all now x.0 x.1) (λ i. (sym (new'.0 ∙ length-set views id ps) i, new'.1 i))
+              (λ (new' : (seat ≡ length (set views id ps)) × ((p ∷ []) ≡ desk)). subst (λ (x : ℕ × List (Place V)). DeskIsOwned r.all now x.0 x.1) (λ i. (sym (new'.0 ∙ length-set views id ps) i, new'.1 i))
               (mine.0, given_here r.owner m new, tt))
               (at_push (set views id ps) (p ∷ []) desk seat e);
         }
 
     -- a desk with no place is split in two of them
-    split_none : (views : List (List (Place V))) (id : ℕ) → Seated rule n b front ws views → Seated rule n b front ws (set views id [] ++ [] ∷ [])
+    split_none : (views : List (List (Place V))) (id : ℕ) → TableHolds rule n b front ws views → TableHolds rule n b front ws (set views id [] ++ [] ∷ [])
     split_none views id r = record {
       all = r.all;
       owner = r.owner;
@@ -97,16 +97,16 @@ module _ {V : Type 0} where
       ruled = r.ruled;
       held = λ seat desk e. ⊎_elim
           (λ (old : get_elem? (set views id []) seat ≡ some desk). ⊎_elim
-          (λ (t : (seat ≡ id) × ([] ≡ desk)). subst (λ (d : List (Place V)). Held r.all r.owner seat d) t.1 tt)
+          (λ (t : (seat ≡ id) × ([] ≡ desk)). subst (λ (d : List (Place V)). DeskIsOwned r.all r.owner seat d) t.1 tt)
           (λ (t : (seat ≢ id) × (get_elem? views seat ≡ some desk)). r.held seat desk t.1)
           (at_set views id seat [] desk old))
-          (λ (new' : (seat ≡ length (set views id [])) × ([] ≡ desk)). subst (λ (d : List (Place V)). Held r.all r.owner seat d) new'.1 tt)
+          (λ (new' : (seat ≡ length (set views id [])) × ([] ≡ desk)). subst (λ (d : List (Place V)). DeskIsOwned r.all r.owner seat d) new'.1 tt)
           (at_push (set views id []) [] desk seat e);
     }
 
-    split_at : (views : List (List (Place V))) (id : ℕ) (desk : List (Place V)) → Seated rule n b front ws views → get_elem? views id ≡ some desk → Seated rule n b front ws (set views id (others_of desk) ++ own_of desk ∷ [])
+    split_at : (views : List (List (Place V))) (id : ℕ) (desk : List (Place V)) → TableHolds rule n b front ws views → get_elem? views id ≡ some desk → TableHolds rule n b front ws (set views id (others_of desk) ++ own_of desk ∷ [])
     split_at views id [] r at = split_none views id r
     split_at views id (p ∷ ps) r at = split_one views id p ps r at
 
-  pub splits : {S : Type 0} (rule : Rule V) (n b : ℕ) (front : List ℕ) (id : ℕ) (desk : List (Place V)) → Splits (λ (s : State S (List (Place V))). Seated rule n b front s.words s.views) id desk (others_of desk) (own_of desk)
+  pub splits : {S : Type 0} (rule : Rule V) (n b : ℕ) (front : List ℕ) (id : ℕ) (desk : List (Place V)) → Splits (λ (s : State S (List (Place V))). TableHolds rule n b front s.words s.views) id desk (others_of desk) (own_of desk)
   splits rule n b front id desk s r at = split_at rule n b front s.words s.views id desk r at

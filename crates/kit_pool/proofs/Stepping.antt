@@ -10,7 +10,7 @@ use Rattle.kit_ground.specs.Rules.{Rule, WasFound}
 use Rattle.kit_ground.specs.Steps.{place_after, address_of}
 use Rattle.kit_ground.proofs.Layouts.{on_floor}
 use Rattle.kit_ground.proofs.WordSteps.{own_there}
-use Rattle.kit_pool.specs.Seating.{Found, OnOwn, Plans, Seated, Stored, others_of, place_in}
+use Rattle.kit_pool.specs.Seating.{FindingIsTold, HoldsOfOwnPlace, Plans, TableHolds, StoreIsTold, others_of, place_in}
 use Rattle.kit_pool.specs.Seats.{IsOwn, IsSized, IsWithin}
 use Rattle.kit_pool.proofs.Owning.{desk_is, on_own, own_numbers}
 use Rattle.kit_pool.proofs.SeatSteps.{finds, stores}
@@ -39,23 +39,23 @@ module _ {V : Type 0} (rule : Rule V) (first : ℕ → V) where
         omega arith
 
     pub may_find : (slots id : ℕ) (f : ℕ → ℕ) (deed : ℕ → Deed) → Plans rule next mine a f deed
-        → Allows (λ (s : State S Ps). Seated rule kn kb (front kn) s.words s.views) slots id me i f (λ x after. Found rule next deed me x after)
+        → Allows (λ (s : State S Ps). TableHolds rule kn kb (front kn) s.words s.views) slots id me i f (λ x after. FindingIsTold rule next deed me x after)
     may_find slots id f deed plan = finds rule kn kb (front kn) next slots id me mine (others_of me.0) (desk_is first me.0 own.there) i a place' f deed plan
 
     pub may_store : (slots id v : ℕ) (deed : ℕ → Deed) → Plans rule next mine a (λ _. v) (λ _. deed v)
-        → Allows (λ (s : State S Ps). Seated rule kn kb (front kn) s.words s.views) slots id me i (λ _. v) (λ _. Stored rule next deed me v)
+        → Allows (λ (s : State S Ps). TableHolds rule kn kb (front kn) s.words s.views) slots id me i (λ _. v) (λ _. StoreIsTold rule next deed me v)
     may_store slots id v deed plan = stores rule kn kb (front kn) next slots id me mine (others_of me.0) (desk_is first me.0 own.there) i a place' v deed plan
 
     module _ (after : Me S Ps) (deed : ℕ → Deed) (x : ℕ) where
       abbrev pub Told_so : Type 0 → Type 0
       Told_so T = (after.0 ≡ place_after next (deed x) mine ∷ others_of me.0) × (after.1 ≡ me.1) × T
 
-      pub was_found : (f : ℕ → ℕ) → Plans rule next mine a f deed → Found rule next deed me x after → Told_so (WasFound rule mine a x)
+      pub was_found : (f : ℕ → ℕ) → Plans rule next mine a f deed → FindingIsTold rule next deed me x after → Told_so (WasFound rule mine a x)
       was_found f plan h =
           let t = on_own first (λ p ps. (after.0 ≡ place_after next (deed x) p ∷ ps) × (after.1 ≡ me.1) × WasFound rule p (address_of p.own (deed x)) x) me.0 own.there h in
           (t.0, t.1, subst (λ (y : Address). WasFound rule mine y x) (sym (plan.address x)) t.2)
 
-      pub was_stored : (f : ℕ → ℕ) → Plans rule next mine a f (λ _. deed x) → Stored rule next deed me x after → Told_so ((found : ℕ) × WasFound rule mine a found)
+      pub was_stored : (f : ℕ → ℕ) → Plans rule next mine a f (λ _. deed x) → StoreIsTold rule next deed me x after → Told_so ((found : ℕ) × WasFound rule mine a found)
       was_stored f plan h =
           let t = on_own first (λ p ps. (after.0 ≡ place_after next (deed x) p ∷ ps) × (after.1 ≡ me.1) × ((found : ℕ) × WasFound rule p (address_of p.own (deed x)) found)) me.0 own.there h in
           (t.0, t.1, (t.2.0, subst (λ (y : Address). WasFound rule mine y t.2.0) (sym (plan.address x)) t.2.1))

@@ -7,7 +7,7 @@ use Rattle.kit_ground.specs.Rules.{Rule, World}
 use Rattle.kit_ground.specs.Steps.{Allowed, address_of, own_after}
 
 -- there was a world in which the step was allowed, and the seat knows of itself what it did
-pub record DidOn {V : Type 0} (rule : Rule V) (p : Place V) (deed : Deed) (q : Place V) : Type 0 where
+pub record WasAllowedStep {V : Type 0} (rule : Rule V) (p : Place V) (deed : Deed) (q : Place V) : Type 0 where
   pub memory : Memory
   pub places : List (Place V)
   pub world : World rule p memory places

@@ -7,11 +7,11 @@ use Rattle.kit_ground.specs.declared.place.Deed.{Deed}
 use Rattle.kit_ground.specs.declared.place.Place.{Place}
 use Rattle.kit_ground.specs.Layout.{index_of, size_of}
 use Rattle.kit_ground.specs.Rules.{Rule, zero_memory, places_at_first}
-use Rattle.kit_pool.specs.Seating.{Found, Plans, Seated, Stored, others_of, own_of}
+use Rattle.kit_pool.specs.Seating.{FindingIsTold, Plans, TableHolds, StoreIsTold, others_of, own_of}
 
 module _ {V : Type 0} (rule : Rule V) where
-  abbrev pub Rules : ℕ → ℕ → List ℕ → State (Unit {0}) (List (Place V)) → Type 0
-  Rules n b front s = Seated rule n b front s.words s.views
+  abbrev pub TableStateHolds : ℕ → ℕ → List ℕ → State (Unit {0}) (List (Place V)) → Type 0
+  TableStateHolds n b front s = TableHolds rule n b front s.words s.views
 
   -- the word i of the table is that of the address
   abbrev pub IsAt : ℕ → ℕ → List ℕ → ℕ → Address → Type 0
@@ -20,22 +20,22 @@ module _ {V : Type 0} (rule : Rule V) where
   -- a step that is planned for the seat's own place is allowed, and tells what it found
   abbrev pub StepsAreAllowed : Type 0
   StepsAreAllowed = (n b : ℕ) (front : List ℕ) (next : Deed → Place V → V) (slots id : ℕ) (me : Me (Unit {0}) (List (Place V))) (p : Place V) (ps : List (Place V)) → me.0 ≡ p ∷ ps → (i : ℕ) (a : Address) → IsAt n b front i a
-      → (f : ℕ → ℕ) (deed : ℕ → Deed) → Plans rule next p a f deed → Allows (Rules n b front) slots id me i f (λ x after. Found rule next deed me x after)
+      → (f : ℕ → ℕ) (deed : ℕ → Deed) → Plans rule next p a f deed → Allows (TableStateHolds n b front) slots id me i f (λ x after. FindingIsTold rule next deed me x after)
 
   -- and so is a store
   abbrev pub StoresAreAllowed : Type 0
   StoresAreAllowed = (n b : ℕ) (front : List ℕ) (next : Deed → Place V → V) (slots id : ℕ) (me : Me (Unit {0}) (List (Place V))) (p : Place V) (ps : List (Place V)) → me.0 ≡ p ∷ ps → (i : ℕ) (a : Address) → IsAt n b front i a
-      → (v : ℕ) (deed : ℕ → Deed) → Plans rule next p a (λ _. v) (λ _. deed v) → Allows (Rules n b front) slots id me i (λ _. v) (λ _. Stored rule next deed me v)
+      → (v : ℕ) (deed : ℕ → Deed) → Plans rule next p a (λ _. v) (λ _. deed v) → Allows (TableStateHolds n b front) slots id me i (λ _. v) (λ _. StoreIsTold rule next deed me v)
 
   -- a seat gives its first place to a new seat
   abbrev pub SeatsAreCut : Type 0
-  SeatsAreCut = (n b : ℕ) (front : List ℕ) (id : ℕ) (desk : List (Place V)) → Splits (Rules n b front) id desk (others_of desk) (own_of desk)
+  SeatsAreCut = (n b : ℕ) (front : List ℕ) (id : ℕ) (desk : List (Place V)) → Splits (TableStateHolds n b front) id desk (others_of desk) (own_of desk)
 
   -- a seat has the places of the one that it takes in behind its own
   abbrev pub SeatsAreTakenIn : Type 0
-  SeatsAreTakenIn = (n b : ℕ) (front : List ℕ) (id : ℕ) (d : List (Place V)) (other : ℕ) (e : List (Place V)) → Joins (Rules n b front) id d other e (d ++ e) []
+  SeatsAreTakenIn = (n b : ℕ) (front : List ℕ) (id : ℕ) (d : List (Place V)) (other : ℕ) (e : List (Place V)) → Joins (TableStateHolds n b front) id d other e (d ++ e) []
 
   -- at the opening one seat has all places, and all words are 0
   abbrev pub OpensSo : Type 0
   OpensSo = (first : ℕ → V) (n b : ℕ) (front words : List ℕ) → 1 ≤ n → n ≤ 16 → b ≤ 1024 → rule.holds zero_memory (places_at_first first n b) → front ++ words ≡ replicate (size_of n b) 0
-      → Seated rule n b front words (places_at_first first n b ∷ [])
+      → TableHolds rule n b front words (places_at_first first n b ∷ [])

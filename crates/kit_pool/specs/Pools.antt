@@ -5,8 +5,8 @@ use Rattle.kit_ground.specs.declared.place.Place.{Place}
 use Rattle.kit_ground.specs.Rules.{Rule}
 
 -- registers that nobody publishes, and a stop word that nobody sets
-unfoldable pub unused : ℕ → List ℕ
-unused n = replicate (13 * n + 1) 0
+unfoldable pub idle_registers : ℕ → List ℕ
+idle_registers n = replicate (13 * n + 1) 0
 
 -- no client: its rule asks nothing, and its views say nothing
 abbrev pub bare_rule : Rule (Unit {0})

@@ -6,7 +6,6 @@ use lib.ListN.{get_elem?}
 use Rattle.atomic_table.specs.Table.{Me}
 use Rattle.kit_ground.specs.declared.address.Address.{Address}
 use Rattle.kit_ground.specs.declared.place.Deed.{Deed}
-use Rattle.kit_ground.specs.declared.place.Deed.TheVariants.{Looked, SawStop, SawFree, Collected, ReadPart}
 use Rattle.kit_ground.specs.declared.place.Place.{Place}
 use Rattle.kit_ground.specs.Rules.{Keeps, Rule, WasFound, own_at_first}
 use Rattle.kit_ground.specs.Steps.{Allowed, place_after, address_of, becomes}
@@ -14,17 +13,17 @@ use Rattle.kit_ground.specs.Words.{RuledWords}
 
 module _ {V : Type 0} where
   -- each place that this seat has is that of its federate, and lies with this seat alone, with so many behind it
-  abbrev pub Held : List (Place V) → (ℕ → ℕ × ℕ) → ℕ → List (Place V) → Type 0
-  Held all owner seat [] = Unit {0}
-  Held all owner seat (p ∷ ps) = (get_elem? all p.own.number ≡ some p) × (owner p.own.number ≡ (seat, length ps)) × Held all owner seat ps
+  abbrev pub DeskIsOwned : List (Place V) → (ℕ → ℕ × ℕ) → ℕ → List (Place V) → Type 0
+  DeskIsOwned all owner seat [] = Unit {0}
+  DeskIsOwned all owner seat (p ∷ ps) = (get_elem? all p.own.number ≡ some p) × (owner p.own.number ≡ (seat, length ps)) × DeskIsOwned all owner seat ps
 
   -- both rules hold of n federates' places and of the words, which stand behind those in front
-  pub record Seated (rule : Rule V) (n b : ℕ) (front words : List ℕ) (desks : List (List (Place V))) : Type 0 where
+  pub record TableHolds (rule : Rule V) (n b : ℕ) (front words : List ℕ) (desks : List (List (Place V))) : Type 0 where
     pub all : List (Place V)
     pub owner : ℕ → ℕ × ℕ
     pub many : length all ≡ n
     pub ruled : RuledWords rule b (front ++ words) all
-    pub held : (seat : ℕ) (desk : List (Place V)) → get_elem? desks seat ≡ some desk → Held all owner seat desk
+    pub held : (seat : ℕ) (desk : List (Place V)) → get_elem? desks seat ≡ some desk → DeskIsOwned all owner seat desk
 
   -- a seat's own place, alone, and the others
   abbrev pub own_of : List (Place V) → List (Place V)
@@ -40,17 +39,17 @@ module _ {V : Type 0} where
   place_in first desk = slice_index_or desk 0 (record { own = own_at_first 0 0 0; client = first 0 })
 
   -- of a seat's own place and the others
-  abbrev pub OnOwn : (Place V → List (Place V) → Type 0) → List (Place V) → Type 0
-  OnOwn F [] = Unit {0}
-  OnOwn F (p ∷ ps) = F p ps
+  abbrev pub HoldsOfOwnPlace : (Place V → List (Place V) → Type 0) → List (Place V) → Type 0
+  HoldsOfOwnPlace F [] = Unit {0}
+  HoldsOfOwnPlace F (p ∷ ps) = F p ps
 
   -- what a step tells: the seat's own place is changed by the deed, and there was a world with the word that was found
-  abbrev pub Found : {S : Type 0} → Rule V → (Deed → Place V → V) → (ℕ → Deed) → Me S (List (Place V)) → ℕ → Me S (List (Place V)) → Type 0
-  Found rule next deed me n after = OnOwn (λ p ps. (after.0 ≡ place_after next (deed n) p ∷ ps) × (after.1 ≡ me.1) × WasFound rule p (address_of p.own (deed n)) n) me.0
+  abbrev pub FindingIsTold : {S : Type 0} → Rule V → (Deed → Place V → V) → (ℕ → Deed) → Me S (List (Place V)) → ℕ → Me S (List (Place V)) → Type 0
+  FindingIsTold rule next deed me n after = HoldsOfOwnPlace (λ p ps. (after.0 ≡ place_after next (deed n) p ∷ ps) × (after.1 ≡ me.1) × WasFound rule p (address_of p.own (deed n)) n) me.0
 
   -- and what a store tells
-  abbrev pub Stored : {S : Type 0} → Rule V → (Deed → Place V → V) → (ℕ → Deed) → Me S (List (Place V)) → ℕ → Me S (List (Place V)) → Type 0
-  Stored rule next deed me n after = OnOwn (λ p ps. (after.0 ≡ place_after next (deed n) p ∷ ps) × (after.1 ≡ me.1) × ((found : ℕ) × WasFound rule p (address_of p.own (deed n)) found)) me.0
+  abbrev pub StoreIsTold : {S : Type 0} → Rule V → (Deed → Place V → V) → (ℕ → Deed) → Me S (List (Place V)) → ℕ → Me S (List (Place V)) → Type 0
+  StoreIsTold rule next deed me n after = HoldsOfOwnPlace (λ p ps. (after.0 ≡ place_after next (deed n) p ∷ ps) × (after.1 ≡ me.1) × ((found : ℕ) × WasFound rule p (address_of p.own (deed n)) found)) me.0
 
   -- what a step is to do at this address: it is allowed whatever it finds, makes f of the word, and keeps the client's rule in every world
   pub record Plans (rule : Rule V) (next : Deed → Place V → V) (p : Place V) (a : Address) (f : ℕ → ℕ) (deed : ℕ → Deed) : Type 0 where
@@ -58,12 +57,3 @@ module _ {V : Type 0} where
     pub makes : (n : ℕ) → becomes (deed n) n ≡ f n
     pub allowed : (n : ℕ) → Allowed p.own (deed n) n
     pub keeps : Keeps rule next p a deed
-
--- what a step did, with the word that it found
-abbrev pub with_found : Deed → ℕ → Deed
-with_found (Looked r _) n = Looked r n
-with_found (SawStop _) n = SawStop (n == 1)
-with_found (SawFree k _) n = SawFree k (n == 0)
-with_found (Collected i w _) n = Collected i w n
-with_found (ReadPart i k p _) n = ReadPart i k p n
-with_found deed n = deed

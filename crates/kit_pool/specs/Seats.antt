@@ -24,14 +24,6 @@ pub record IsWithin (number n b : ℕ) : Type 0 where
   pub small : b ≤ 1024
 
 -- lists that were taken in one after another, the last first
-abbrev pub gathered : {A : Type 0} → List (List A) → List A
-gathered [] = []
-gathered (x ∷ xs) = gathered xs ++ x
-
--- a new seat of the federate k, whose place is that at first
-pub record IsNewSeat {V : Type 0} (first : ℕ → V) (n b k : ℕ) (table : TableId) (number federates buffers : ℕ) (seat : TableId) (desk : List (Place V)) : Type 0 where
-  pub of_it : seat ≡ table
-  pub numbered : number ≡ k
-  pub as_many : federates ≡ n
-  pub as_wide : buffers ≡ b
-  pub place : desk ≡ record { own = own_at_first n b k; client = first k } ∷ []
+abbrev pub desks_taken_in : {A : Type 0} → List (List A) → List A
+desks_taken_in [] = []
+desks_taken_in (x ∷ xs) = desks_taken_in xs ++ x

@@ -2,12 +2,17 @@
 //! for each floor that threads share.
 #![tactic(auto)]
 
+mod dealing;
 mod laws;
 mod pool;
 mod rule;
 mod seat;
 
+pub use dealing::{gather, lay};
 pub use laws::seats_keep_the_rules;
 pub use pool::{Pool, PoolSeat, Registers};
-pub use rule::{Finds, Front, Laid, OwnFirst, Plan, SeatingRule, Stores};
-pub use seat::{SeatingTable, TableSeat, gather, lay, readers};
+pub use rule::{Finds, Front, Laid, OwnFirst, Plan, SeatingRule, SeatingTable, Stores};
+pub use seat::{TableSeat, readers};
+
+#[cfg(test)]
+mod tests;

@@ -1,16 +1,17 @@
 //! The rule of a table whose seats are those of federates, and what its steps tell.
-use atomic_table::{Join, Play, Split, TableRule};
+use atomic_table::{Join, Play, Split, Table, TableRule};
 use kit_ground::{Event, Place, Protocol};
+use kit_known::Known;
+use std::alloc::Global;
 use std::collections::LinkedList;
 use std::marker::{Brand, PhantomData};
-use std::snapshot::Snapshot;
 
 /// What the table is told when it is made.
 #[derive(Drop)]
 pub struct Laid<O> {
     pub federates: u8,
     pub buffers: u16,
-    pub opening: Snapshot<O>,
+    pub opening: Known<O>,
 }
 
 /// The words that stand before the first word of the table, where it has not all words of a floor.
@@ -29,12 +30,21 @@ pub struct SeatingRule<P, F> {
 impl<P: Protocol, F: Front> TableRule<(), LinkedList<Place<P::View>>, Laid<P::Opening>>
     for SeatingRule<P, F> {
     ghost use Rattle.kit_ground.specs.Rules.{places_at_first};
-    ghost use Rattle.kit_pool.specs.Seating.{Seated};
+    ghost use Rattle.kit_pool.specs.Seating.{TableHolds};
 
-    ghost holds = { λ k s. Seated P.rule k.federates k.buffers (F.front k.federates) s.words s.views };
+    ghost holds = { λ k s. TableHolds P.rule k.federates k.buffers (F.front k.federates) s.words s.views };
 
     ghost first = { λ k. places_at_first (P.first k.opening.value) k.federates k.buffers };
 }
+
+/// A table under both rules, whose words stand behind those in front.
+pub type SeatingTable<P, F> = Table<
+    (),
+    LinkedList<Place<<P as Protocol>::View>>,
+    Laid<<P as Protocol>::Opening>,
+    SeatingRule<P, F>,
+    Global,
+>;
 
 /// What a step does, by the word that it finds. Each call picks it.
 pub trait Plan {
@@ -57,9 +67,9 @@ pub struct Finds<P, E, D> {
 
 impl<P: Protocol, E: Event<P::View>, D: Plan> Play<(), LinkedList<Place<P::View>>>
     for Finds<P, E, D> {
-    ghost use Rattle.kit_pool.specs.Seating.{Found};
+    ghost use Rattle.kit_pool.specs.Seating.{FindingIsTold};
 
-    ghost then = { λ s me n after. Found P.rule E.next D.deed me n after };
+    ghost then = { λ s me n after. FindingIsTold P.rule E.next D.deed me n after };
 }
 
 /// A store, which does not tell it.
@@ -69,9 +79,9 @@ pub struct Stores<P, E, D> {
 
 impl<P: Protocol, E: Event<P::View>, D: Plan> Play<(), LinkedList<Place<P::View>>>
     for Stores<P, E, D> {
-    ghost use Rattle.kit_pool.specs.Seating.{Stored};
+    ghost use Rattle.kit_pool.specs.Seating.{StoreIsTold};
 
-    ghost then = { λ s me n after. Stored P.rule E.next D.deed me n after };
+    ghost then = { λ s me n after. StoreIsTold P.rule E.next D.deed me n after };
 }
 
 /// A seat that has the places of several federates gives the first away, and one that takes another

@@ -3,10 +3,11 @@ ghost use Rattle.std.specs.Prelude.{◌≡◌, ◌≢◌, ℕ, ◌<◌};
 ghost use Rattle.kit_ground.specs.Layout.{mail_words};
 ghost use Rattle.kit_ground.specs.Steps.{buffer_of};
 ghost use Rattle.kit_pool.specs.Pools.{no_client};
-ghost use Rattle.kit_pool.specs.Seats.{IsNewSeat};
+ghost use Rattle.kit_floor.specs.FloorViews.{IsNewSeatOf, buffers_of, federates_of};
 
 use kit_floor::{FloorSeat, TableFloor};
 use kit_ground::{Bare, Ground, Reg, Unmoved};
+use kit_known::Known;
 use std::alloc::{AllocError, Global};
 
 fn looks<G: Ground<Under = Bare>>(seat: &mut G, turns: u64) -> u64
@@ -72,8 +73,9 @@ pub enum Call {
 
 /// One call again and again, by a seat of a floor of two.
 fn repeat_on(floor: &TableFloor<Bare>, seat: FloorSeat<Bare>, call: Call, turns: u64) -> u64
-    requires laid { (floor.now.table.shared.key.federates ≡ 2) × (floor.now.table.shared.key.buffers ≡ 1) }
-    requires new { (k : ℕ) × IsNewSeat no_client 2 1 k floor.now.table.shared.table_id seat.number seat.federates seat.buffers seat.seat.table_id seat.seat.me.0 }
+    requires two { federates_of floor.now ≡ 2 }
+    requires one { buffers_of floor.now ≡ 1 }
+    requires new { (k : ℕ) × IsNewSeatOf (λ _. no_client) floor.now k seat }
 {
     let other = 1 - seat.number();
     let mut ground = floor.stand(seat);
@@ -87,7 +89,7 @@ fn repeat_on(floor: &TableFloor<Bare>, seat: FloorSeat<Bare>, call: Call, turns:
 
 /// One call again and again, on a floor of two that one thread has.
 pub fn repeat(alloc: Global, call: Call, turns: u64) -> Result<u64, AllocError> {
-    let (floor, mut seats) = TableFloor::<Bare>::lay(alloc, 2, 1, &())?;
+    let (floor, mut seats) = TableFloor::<Bare>::lay(alloc, 2, 1, &Known::new(&()))?;
     let Some(seat) = seats.pop() else {
         return Ok(0);
     };

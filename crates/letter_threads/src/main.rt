@@ -1,74 +1,91 @@
-//! Two threads send each other letters on one floor, as often as its first word says. It prints
-//! whether all letters came, and with the second word `count` also how many. With `look`, `publish`,
-//! `free` or `collect` one thread makes that call so often instead, for measuring.
+//! Federates on one floor, each in a thread of its own, send each other letters by two mail words,
+//! and compare each letter that comes with the one that is due. Words: how many letters go from each
+//! federate to each other one by each mail word, and how many federates there are, 2 to 4, or 2
+//! without that word. With `look`, `publish`, `free` or `collect` as the second word one
+//! thread makes that call so often instead, for measuring.
 #![tactic(auto)]
 
 mod calls;
 mod trades;
 
 use calls::{Call, repeat};
+use std::alloc::Global;
 use std::process::ExitCode;
+use std::thread::Threads;
 use std::{env, io};
-use trades::{Traded, trade_on_threads};
+use trades::trade_on_threads;
 
-/// How many turns each thread takes, and whether the letters are counted: the words of the command
-/// line.
-fn turns_of(rt: &HostRuntime) -> io::Result<Option<(u64, Option<String>)>> {
-    let mut words = env::args(rt)?;
-    match words.nth(1) {
-        Some(word) => match word.parse::<u64>() {
-            Ok(turns) => Ok(Some((turns, words.next()))),
-            Err(_) => Ok(None),
-        },
-        None => Ok(None),
+/// What the words of the command line ask for.
+enum Task {
+    Trade(u8),
+    Repeat(Call),
+}
+
+fn task_of(word: &str) -> Option<Task> {
+    match word.as_bytes() {
+        b"2" => Some(Task::Trade(2)),
+        b"3" => Some(Task::Trade(3)),
+        b"4" => Some(Task::Trade(4)),
+        b"look" => Some(Task::Repeat(Call::Look)),
+        b"publish" => Some(Task::Repeat(Call::Publish)),
+        b"free" => Some(Task::Repeat(Call::Free)),
+        b"collect" => Some(Task::Repeat(Call::Collect)),
+        _ => None,
     }
 }
 
-/// The call that a word names.
-fn call_of(word: &str) -> Option<Call> {
-    if word == "look" {
-        return Some(Call::Look);
+/// The words of the command line: a number and a task.
+fn words_of(rt: &HostRuntime) -> io::Result<Option<(u64, Task)>> {
+    let mut words = env::args(rt)?;
+    let Some(number) = words.nth(1) else {
+        return Ok(None);
+    };
+    let Ok(number) = number.parse::<u64>() else {
+        return Ok(None);
+    };
+    let task = match words.next() {
+        Some(word) => task_of(word.as_str()),
+        None => Some(Task::Trade(2)),
+    };
+    Ok(task.map(|task| (number, task)))
+}
+
+/// What a run of so many federates is to say of its letters.
+fn report<R: Threads + Print + Sync>(
+    rt: &R,
+    alloc: Global,
+    federates: u8,
+    letters: u64,
+) -> io::Result<()> {
+    let federates = if federates < 2 { 2 } else { federates.min(4) };
+    let Ok(all) = trade_on_threads(rt, alloc, federates, letters) else {
+        return println!(rt; "no memory");
+    };
+    let ways = u64::from(federates) * (u64::from(federates) - 1) * 2;
+    let due = letters.wrapping_mul(ways);
+    if all.came == due && all.wrong == 0 {
+        println!(rt; "{federates} federates, {due} letters: all came as they were sent")
+    } else {
+        println!(rt;
+            "{federates} federates, {due} letters: {} came, {} of them wrong",
+            all.came, all.wrong
+        )
     }
-    if word == "publish" {
-        return Some(Call::Publish);
-    }
-    if word == "free" {
-        return Some(Call::Free);
-    }
-    if word == "collect" {
-        return Some(Call::Collect);
-    }
-    None
 }
 
 fn main(rt: HostRuntime) -> ExitCode {
-    let Ok(Some((turns, word))) = turns_of(&rt) else {
+    let Ok(Some((number, task))) = words_of(&rt) else {
         return ExitCode::FAILURE;
     };
-    let counted = word.is_some();
-    if let Some(word) = word {
-        if let Some(call) = call_of(word.as_str()) {
-            let Ok(sum) = repeat(rt.alloc(), call, turns) else {
-                return ExitCode::FAILURE;
-            };
-            let _ = println!(rt; "{sum}");
-            return ExitCode::SUCCESS;
-        }
-    }
-    let Ok(Traded { one, two }) = trade_on_threads(&rt, rt.alloc(), turns) else {
-        return ExitCode::FAILURE;
+    let done = match task {
+        Task::Trade(federates) => report(&rt, rt.alloc(), federates, number),
+        Task::Repeat(call) => match repeat(rt.alloc(), call, number) {
+            Ok(sum) => println!(rt; "{sum}"),
+            Err(_) => println!(rt; "no memory"),
+        },
     };
-    if counted {
-        let _ = println!(rt; "{} and {} letters", one.sent, two.sent);
+    match done {
+        Ok(()) => ExitCode::SUCCESS,
+        Err(_) => ExitCode::FAILURE,
     }
-    let all = one.sent == two.letters
-        && two.sent == one.letters
-        && one.given == two.sum
-        && two.given == one.sum;
-    if all {
-        let _ = println!(rt; "all letters came");
-    } else {
-        let _ = println!(rt; "letters were lost");
-    }
-    ExitCode::SUCCESS
 }

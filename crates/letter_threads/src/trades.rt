@@ -1,164 +1,272 @@
-ghost use Rattle.std.specs.Prelude.{◌≡◌, ◌≢◌, ℕ, ◌<◌, ◌≤◌, length};
-ghost use Rattle.kit_ground.specs.Steps.{buffer_of};
-ghost use Rattle.kit_pool.specs.Seats.{IsNewSeat};
-ghost use Rattle.kit_courier.specs.Calls.{IsSameSeat};
+//! Federates that send letters to each other, each in a thread of its own, and compare what comes.
+ghost use Rattle.std.specs.Prelude.{◌≡◌, ◌≢◌, ℕ, ◌<◌, ◌≤◌};
+ghost use Rattle.kit_ground.specs.Steps.{IsSameSeat, buffer_of};
+ghost use Rattle.kit_courier.specs.Calls.{OwesTheSame};
 ghost use Rattle.kit_courier.specs.Deliveries.{courier_first};
+ghost use Rattle.kit_floor.specs.FloorViews.{IsNewSeatOf, buffers_of, federates_of};
 
 use kit_courier::{Couriers, Letter, receive, send};
 use kit_floor::{FloorSeat, TableFloor};
 use kit_ground::Ground;
+use kit_known::Known;
 use std::alloc::{AllocError, Global};
-use std::thread::{Threads, join, yield_now};
+use std::thread::{Threads, map_vec, yield_now};
 
-/// What one federate sent and what came to it: how many letters, and the sums of their words modulo
-/// 2^64.
+/// How many turns a federate takes at most. A run that is still without a letter then ends, and says
+/// so.
+const TURNS: u64 = 1 << 40;
+
+/// After so many turns in which nothing was sent and nothing came, the thread lets others run.
+const PATIENCE: u64 = 256;
+
+/// What one federate sent and what came to it, by the other federate and the mail word.
+#[derive(Clone, Copy)]
+struct Book {
+    sent: [u64; 8],
+    came: [u64; 8],
+    wrong: u64,
+}
+
+/// How many letters came, and how many of them were not the letter that was due.
 #[derive(Clone, Copy)]
 pub struct Tally {
-    pub sent: u64,
-    pub given: u64,
-    pub letters: u64,
-    pub sum: u64,
+    pub came: u64,
+    pub wrong: u64,
 }
 
-/// What both federates did.
-pub struct Traded {
-    pub one: Tally,
-    pub two: Tally,
-}
-
-impl Tally {
-    fn gave(&mut self, letter: Letter) {
-        self.sent = self.sent.wrapping_add(1);
-        self.given = self
-            .given
-            .wrapping_add(letter.head)
-            .wrapping_add(letter.body);
-    }
-
-    fn got(&mut self, letter: Letter) {
-        self.letters = self.letters.wrapping_add(1);
-        self.sum = self.sum.wrapping_add(letter.head).wrapping_add(letter.body);
-    }
-}
-
-/// The mail word of the first buffer, or of the last.
-fn word_of(last: bool) -> u8
-    ensures { result ≤ 1 }
+/// Two mail words lead to each other federate: one of the first buffer, and one of the last.
+fn buffer_in(word: u8) -> u16
+    requires { word ≤ 1 }
+    ensures { result ≤ 64 }
 {
-    if last { 1 } else { 0 }
+    if word == 0 { 0 } else { 64 }
 }
 
-/// In each turn a letter goes to the other federate where the buffer is free, and one that came is
-/// taken. The first buffer and the last take turns, which go by two mail words.
-fn trade<G: Ground<Under = Couriers>>(seat: &mut G, other: u8, turns: u64) -> Tally
+/// The place of a federate and a mail word in a book.
+fn entry(other: u8, word: u8) -> usize
+    requires other { other < 4 }
+    requires word { word ≤ 1 }
+    ensures { result < 8 }
+{
+    usize::from(other) * 2 + usize::from(word)
+}
+
+/// The letter of this number from one federate to another by a mail word. Both know it, so what comes
+/// is compared with it.
+fn letter_of(from: u8, to: u8, word: u8, number: u64) -> Letter {
+    let way = u64::from(from) << 9 | u64::from(to) << 1 | u64::from(word);
+    Letter {
+        head: number,
+        body: number.wrapping_mul(0x9E37_79B9_7F4A_7C15) ^ way,
+    }
+}
+
+/// Sends the next letter to a federate by a mail word, if one is left and the buffer is free.
+fn send_next<G: Ground<Under = Couriers>>(
+    seat: &mut G,
+    sent: &mut u64,
+    letters: u64,
+    to: u8,
+    word: u8,
+) -> bool
+    requires to { to < (G.place seat.old).own.federates }
+    requires other { to ≢ (G.place seat.old).own.number }
+    requires word { word ≤ 1 }
+    requires wide { 64 < (G.place seat.old).own.buffers }
+    requires owed { (k : ℕ) → (buffer_of (G.place seat.old).own.stock k).to_post ≡ 0 }
+    ensures came { G.came seat.old seat.new }
+    ensures same { IsSameSeat (G.place seat.old) (G.place seat.new) }
+    ensures owed { OwesTheSame (G.place seat.old) (G.place seat.new) }
+{
+    if *sent >= letters {
+        return false;
+    }
+    let letter = letter_of(seat.me(), to, word, *sent);
+    let is_sent = send(seat, buffer_in(word), to, letter);
+    if is_sent {
+        *sent += 1;
+    }
+    is_sent
+}
+
+/// Takes the next letter of a federate in a mail word, if one is due and has come.
+fn receive_next<G: Ground<Under = Couriers>>(
+    seat: &mut G,
+    came: &mut u64,
+    wrong: &mut u64,
+    letters: u64,
+    from: u8,
+    word: u8,
+) -> bool
+    requires from { from < (G.place seat.old).own.federates }
+    requires other { from ≢ (G.place seat.old).own.number }
+    requires word { word ≤ 1 }
+    requires wide { 64 < (G.place seat.old).own.buffers }
+    ensures came { G.came seat.old seat.new }
+    ensures same { IsSameSeat (G.place seat.old) (G.place seat.new) }
+    ensures owed { OwesTheSame (G.place seat.old) (G.place seat.new) }
+{
+    if *came >= letters {
+        return false;
+    }
+    let due = letter_of(from, seat.me(), word, *came);
+    match receive(seat, from, word) {
+        Some(letter) => {
+            *came += 1;
+            if letter != due {
+                *wrong = wrong.wrapping_add(1);
+            }
+            true
+        }
+        None => false,
+    }
+}
+
+/// With one other federate by one mail word: what can be sent is sent, and what came is taken.
+fn exchange_with<G: Ground<Under = Couriers>>(
+    seat: &mut G,
+    book: &mut Book,
+    letters: u64,
+    other: u8,
+    word: u8,
+) -> bool
+    requires few { (G.place seat.old).own.federates ≤ 4 }
     requires other { other < (G.place seat.old).own.federates }
     requires apart { other ≢ (G.place seat.old).own.number }
-    requires some { 64 < (G.place seat.old).own.buffers }
+    requires word { word ≤ 1 }
+    requires wide { 64 < (G.place seat.old).own.buffers }
+    requires owed { (k : ℕ) → (buffer_of (G.place seat.old).own.stock k).to_post ≡ 0 }
+    ensures came { G.came seat.old seat.new }
+    ensures same { IsSameSeat (G.place seat.old) (G.place seat.new) }
+    ensures owed { OwesTheSame (G.place seat.old) (G.place seat.new) }
+{
+    let at = entry(other, word);
+    let is_sent = send_next(seat, &mut book.sent[at], letters, other, word);
+    let has_come = receive_next(
+        seat,
+        &mut book.came[at],
+        &mut book.wrong,
+        letters,
+        other,
+        word,
+    );
+    is_sent || has_come
+}
+
+/// With each other federate, by both mail words.
+fn exchange_all<G: Ground<Under = Couriers>>(seat: &mut G, book: &mut Book, letters: u64) -> bool
+    requires few { (G.place seat.old).own.federates ≤ 4 }
+    requires wide { 64 < (G.place seat.old).own.buffers }
+    requires owed { (k : ℕ) → (buffer_of (G.place seat.old).own.stock k).to_post ≡ 0 }
+    ensures came { G.came seat.old seat.new }
+    ensures same { IsSameSeat (G.place seat.old) (G.place seat.new) }
+    ensures owed { (k : ℕ) → (buffer_of (G.place seat.new).own.stock k).to_post ≡ 0 }
+{
+    let me = seat.me();
+    let federates = seat.federates();
+    let mut any = false;
+    for other in 0..federates {
+        if other != me {
+            let first = exchange_with(seat, book, letters, other, 0);
+            let second = exchange_with(seat, book, letters, other, 1);
+            any = any || first || second;
+        }
+    }
+    any
+}
+
+impl Book {
+    fn new() -> Book {
+        Book {
+            sent: [0; 8],
+            came: [0; 8],
+            wrong: 0,
+        }
+    }
+
+    /// How many letters were sent, and how many came.
+    fn counts(&self) -> (u64, u64) {
+        let sent = self.sent.iter().fold(0u64, |all, &n| all.wrapping_add(n));
+        let came = self.came.iter().fold(0u64, |all, &n| all.wrapping_add(n));
+        (sent, came)
+    }
+}
+
+/// So many letters go to each other federate by each of both mail words, and as many come. It ends
+/// when all have.
+fn trade<G: Ground<Under = Couriers>>(seat: &mut G, letters: u64) -> Tally
+    requires few { (G.place seat.old).own.federates ≤ 4 }
+    requires wide { 64 < (G.place seat.old).own.buffers }
     requires owed { (k : ℕ) → (buffer_of (G.place seat.old).own.stock k).to_post ≡ 0 }
     ensures came { G.came seat.old seat.new }
 {
-    let mut trade = Tally {
-        sent: 0,
-        given: 0,
-        letters: 0,
-        sum: 0,
-    };
-    for turn in 0..turns {
-        let letter = Letter {
-            head: turn,
-            body: turn / 3,
-        };
-        let last = turn % 2 == 1;
-        if send(seat, if last { 64 } else { 0 }, other, letter) {
-            trade.gave(letter);
+    let ways = 2 * u64::from(seat.federates().saturating_sub(1));
+    let due = letters.wrapping_mul(ways);
+    let mut book = Book::new();
+    let mut idle = 0;
+    for _turn in 0..TURNS {
+        if book.counts() == (due, due) {
+            break;
         }
-        let word = word_of(last);
-        if let Some(letter) = receive(seat, other, word) {
-            trade.got(letter);
+        if exchange_all(seat, &mut book, letters) {
+            idle = 0;
+        } else if idle < PATIENCE {
+            idle += 1;
         } else {
             yield_now();
         }
     }
-    trade
-}
-
-/// The turns of one federate of two.
-fn work(
-    floor: &TableFloor<Couriers>,
-    seat: FloorSeat<Couriers>,
-    turns: u64,
-) -> (FloorSeat<Couriers>, Tally)
-    requires laid { (floor.now.table.shared.key.federates ≡ 2) × (floor.now.table.shared.key.buffers ≡ 65) }
-    requires new { (k : ℕ) × IsNewSeat (courier_first tt) 2 65 k floor.now.table.shared.table_id seat.number seat.federates seat.buffers seat.seat.table_id seat.seat.me.0 }
-    ensures of_it { result.0.seat.table_id ≡ floor.now.table.shared.table_id }
-    ensures as_many { result.0.federates ≡ 2 }
-    ensures as_wide { result.0.buffers ≡ 65 }
-    ensures alone { length result.0.seat.me.0 ≡ 1 }
-{
-    let other = 1 - seat.number();
-    let mut ground = floor.stand(seat);
-    let trade = trade(&mut ground, other, turns);
-    (ground.leave(), trade)
-}
-
-/// What came last is taken too.
-fn finish(
-    floor: &TableFloor<Couriers>,
-    seat: FloorSeat<Couriers>,
-    trade: Tally,
-) -> (FloorSeat<Couriers>, Tally)
-    requires laid { (floor.now.table.shared.key.federates ≡ 2) × (floor.now.table.shared.key.buffers ≡ 65) }
-    requires of_it { seat.seat.table_id ≡ floor.now.table.shared.table_id }
-    requires as_many { seat.federates ≡ 2 }
-    requires as_wide { seat.buffers ≡ 65 }
-    requires alone { length seat.seat.me.0 ≡ 1 }
-    ensures of_it { result.0.seat.table_id ≡ floor.now.table.shared.table_id }
-    ensures as_many { result.0.federates ≡ 2 }
-    ensures alone { length result.0.seat.me.0 ≡ 1 }
-{
-    let mut trade = trade;
-    let mut ground = floor.stand(seat);
-    let me = ground.me();
-    let other = if me == 0 { 1 } else { 0 };
-    if other < ground.federates() {
-        if let Some(letter) = receive(&mut ground, other, 0) {
-            trade.got(letter);
-        }
-        if let Some(letter) = receive(&mut ground, other, 1) {
-            trade.got(letter);
-        }
+    Tally {
+        came: book.counts().1,
+        wrong: book.wrong,
     }
-    (ground.leave(), trade)
 }
 
-/// Two federates trade on one floor, each in a thread of its own.
+/// What one federate of a floor does.
+fn work(floor: &TableFloor<Couriers>, seat: FloorSeat<Couriers>, letters: u64) -> Tally
+    requires few { federates_of floor.now ≤ 4 }
+    requires wide { 64 < buffers_of floor.now }
+    requires new { (k : ℕ) × IsNewSeatOf courier_first floor.now k seat }
+{
+    let mut ground = floor.stand(seat);
+    trade(&mut ground, letters)
+}
+
+/// So many federates trade on one floor, each in a thread of its own. It gives what came to all of
+/// them.
+///
+/// It fails only for want of memory.
 pub fn trade_on_threads<R: Threads + Sync>(
     rt: &R,
     alloc: Global,
-    turns: u64,
-) -> Result<Traded, AllocError> {
-    let (floor, mut seats) = TableFloor::<Couriers>::lay(alloc, 2, 65, &())?;
-    let (Some(two), Some(one)) = (seats.pop(), seats.pop()) else {
-        unreachable!()
-    };
+    federates: u8,
+    letters: u64,
+) -> Result<Tally, AllocError>
+    requires { (1 ≤ federates) × (federates ≤ 4) }
+{
+    let (floor, seats) = TableFloor::<Couriers>::lay(
+        alloc,
+        federates,
+        65,
+        &Known::new(&federates),
+    )?;
     let shared = &floor;
-    let (one, two) = join(
+    let tallies = map_vec(
         rt,
-        move || -> (FloorSeat<Couriers>, Tally)
-            requires laid { (shared.now.table.shared.key.federates ≡ 2) × (shared.now.table.shared.key.buffers ≡ 65) }
-            requires new { (k : ℕ) × IsNewSeat (courier_first tt) 2 65 k shared.now.table.shared.table_id one.number one.federates one.buffers one.seat.table_id one.seat.me.0 }
-            ensures of_it { (result.0.seat.table_id ≡ shared.entry.now.table.shared.table_id) × (result.0.federates ≡ 2) × (result.0.buffers ≡ 65) × (length result.0.seat.me.0 ≡ 1) }
-        { work(shared, one, turns) },
-        move || -> (FloorSeat<Couriers>, Tally)
-            requires laid { (shared.now.table.shared.key.federates ≡ 2) × (shared.now.table.shared.key.buffers ≡ 65) }
-            requires new { (k : ℕ) × IsNewSeat (courier_first tt) 2 65 k shared.now.table.shared.table_id two.number two.federates two.buffers two.seat.table_id two.seat.me.0 }
-            ensures of_it { (result.0.seat.table_id ≡ shared.entry.now.table.shared.table_id) × (result.0.federates ≡ 2) × (result.0.buffers ≡ 65) × (length result.0.seat.me.0 ≡ 1) }
-        { work(shared, two, turns) },
-    );
-    let (first, one) = finish(shared, one.0, one.1);
-    let (second, two) = finish(shared, two.0, two.1);
-    seats.push(first)?;
-    seats.push(second)?;
-    let _account = floor.close(seats);
-    Ok(Traded { one, two })
+        seats,
+        &|seat: FloorSeat<Couriers>| -> Tally
+            requires few { federates_of shared.now ≤ 4 }
+            requires wide { 64 < buffers_of shared.now }
+            requires new { (k : ℕ) × IsNewSeatOf courier_first shared.now k seat }
+        { work(shared, seat, letters) },
+    )?;
+    Ok(
+        tallies.iter().fold(
+            Tally { came: 0, wrong: 0 },
+            |all, one| Tally {
+                came: all.came.wrapping_add(one.came),
+                wrong: all.wrong.wrapping_add(one.wrong),
+            },
+        ),
+    )
 }

@@ -8,6 +8,6 @@ pub collects-requires-clause-word : goal.collects-requires-clause-word
 collects-requires-clause-word c =
     let s = c.stand-ground.result.seat in
     let own = own_numbers no_client s.number s.federates s.buffers s.seat.me.0 s.own in
-    let wide = ap (λ x. x.buffers) c.stand-ground.ensures.0 in
-    let one = c.requires.new.1.as_wide in
-    some_words _ (omega (arith, own.2, wide, one))
+    let wide = ap (λ x. x.buffers) c.stand-ground.ensures.seat in
+    let same = c.requires.new.1.seat.as_wide in
+    some_words _ (omega (arith, own.2, wide, same, c.requires.one))

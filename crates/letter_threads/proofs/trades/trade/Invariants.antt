@@ -1,6 +1,5 @@
 use Rattle.std.proofs.Common.{◌≡◌, ℕ}
-use Rattle.kit_ground.specs.Steps.{buffer_of}
-use Rattle.kit_courier.specs.Calls.{IsSameSeat}
+use Rattle.kit_ground.specs.Steps.{IsSameSeat, buffer_of}
 use Rattle.letter_threads.proofs.trades.trade.Given as goal
 
 abbrev pub invariant-loop-turn : goal.invariant-loop-turn

@@ -1,16 +1,12 @@
-use Rattle.std.proofs.Common.{ℕ}
-use Rattle.kit_pool.specs.Seats.{IsNewSeat}
-use Rattle.kit_pool.proofs.Dealing.{at_end, each_left}
-use Rattle.kit_courier.specs.Deliveries.{courier_first}
+use Rattle.std.proofs.Common.{arith}
+use Rattle.kit_courier.proofs.Openings.{opens_told}
+use Rattle.letter_threads.proofs.Jobs.{at_index}
 use Rattle.letter_threads.proofs.trades.trade_on_threads.Goals as goal
 
-pub join-one-requires-after_bounds : goal.join-one-requires-after_bounds
-join-one-requires-after_bounds g c κs within =
-    let laid = c.in_ok-floor.ensures.floor in
-    let id = c.in_ok-floor.floor.table.shared.table_id in
-    let dealt = c.in_ok-floor.ensures.seats in
-    let last = c.in-Some-Some.ensures.items in
-    let left = each_left (λ k s. IsNewSeat (courier_first tt) 2 65 k id s.number s.federates s.buffers s.seat.table_id s.seat.me.0) _ _ _ last dealt in
-    let one = at_end (λ s. (k : ℕ) × IsNewSeat (courier_first tt) 2 65 k id s.number s.federates s.buffers s.seat.table_id s.seat.me.0) _ _ _ c.in-Some-Some.ensures'.items (λ k s e. (k, left k s e)) in
-    let two = at_end (λ s. (k : ℕ) × IsNewSeat (courier_first tt) 2 65 k id s.number s.federates s.buffers s.seat.table_id s.seat.me.0) _ _ _ last (λ k s e. (k, dealt k s e)) in
-    (((laid.0, laid.1), one), ((laid.0, laid.1), two))
+pub lay-requires-clause-rule : goal.lay-requires-clause-rule
+lay-requires-clause-rule g c = opens_told c.new.result.value c.args.federates 65 c.new.ensures
+
+pub map_vec-requires-after_bounds : goal.map_vec-requires-after_bounds
+map_vec-requires-after_bounds g c κs within = λ i x inside is.
+    let laid = c.in_ok-floor.ensures in
+    (omega (arith, laid.federates, c.requires.1), (omega (arith, laid.buffers), (i, laid.seats i x (at_index c.in_ok-floor.seats.items i x inside is))))

@@ -4,7 +4,7 @@ use mathlib.Core.Option.{some}
 use lib.ListN.{get_elem?}
 use Rattle.kit_ground.specs.declared.place.Place.{Place}
 use Rattle.kit_ground.specs.Words.{RuledWords}
-use Rattle.kit_floor.specs.Accounts.{Account, in_order}
+use Rattle.kit_floor.specs.Accounts.{Account, places_in_order}
 use Rattle.kit_floor.proofs.Closing.{closes}
 use Rattle.kit_floor.proofs.account.FloorAccount.of.Goals as goal
 
@@ -17,7 +17,7 @@ invariant_of-result g c =
     let v = c.close_with-closed.ensures.values in
     let long = ap (λ m. length m.me.0) seat ∙ (c.requires.places ∙ sym laid.0) in
     let made = closes rule c.args.table.shared.key.federates c.args.table.shared.key.buffers c.into_seat.result.id c.into_seat.result.me.0 (slots_items closed.words) (slots_items closed.slots) v.2 long in
-    let same : in_order c.args.table.shared.key.federates c.into_seat.result.me.0 ≡ c.of-places.result.value = (λ i. in_order (laid.0 i) (seat i).me.0) ∙ sym c.of-places.ensures in (
+    let same : places_in_order c.args.table.shared.key.federates c.into_seat.result.me.0 ≡ c.of-places.result.value = (λ i. places_in_order (laid.0 i) (seat i).me.0) ∙ sym c.of-places.ensures in (
       subst (λ (x : ℕ × List (Place g.row.P-View.Denot)). RuledWords rule x.0 (slots_items closed.words) x.1) (λ i. (laid.1 i, same i)) made.ruled,
       ap length (sym same) ∙ (made.many ∙ laid.0),
       v.0,
@@ -33,7 +33,7 @@ returns-clause-many g c =
     let v = c.close_with-closed.ensures.values in
     let long = ap (λ m. length m.me.0) seat ∙ (c.requires.places ∙ sym laid.0) in
     let made = closes rule c.args.table.shared.key.federates c.args.table.shared.key.buffers c.into_seat.result.id c.into_seat.result.me.0 (slots_items closed.words) (slots_items closed.slots) v.2 long in
-    let same : in_order c.args.table.shared.key.federates c.into_seat.result.me.0 ≡ c.of-places.result.value = (λ i. in_order (laid.0 i) (seat i).me.0) ∙ sym c.of-places.ensures in
+    let same : places_in_order c.args.table.shared.key.federates c.into_seat.result.me.0 ≡ c.of-places.result.value = (λ i. places_in_order (laid.0 i) (seat i).me.0) ∙ sym c.of-places.ensures in
     ap length (sym same) ∙ (made.many ∙ laid.0)
 
 pub returns-clause-each : goal.returns-clause-each
@@ -45,5 +45,5 @@ returns-clause-each g c =
     let v = c.close_with-closed.ensures.values in
     let long = ap (λ m. length m.me.0) seat ∙ (c.requires.places ∙ sym laid.0) in
     let made = closes rule c.args.table.shared.key.federates c.args.table.shared.key.buffers c.into_seat.result.id c.into_seat.result.me.0 (slots_items closed.words) (slots_items closed.slots) v.2 long in
-    let same : in_order c.args.table.shared.key.federates c.into_seat.result.me.0 ≡ c.of-places.result.value = (λ i. in_order (laid.0 i) (seat i).me.0) ∙ sym c.of-places.ensures in
+    let same : places_in_order c.args.table.shared.key.federates c.into_seat.result.me.0 ≡ c.of-places.result.value = (λ i. places_in_order (laid.0 i) (seat i).me.0) ∙ sym c.of-places.ensures in
     λ k p e. ap (λ l. get_elem? l p.own.number) (sym same) ∙ made.each k p (ap (λ m. get_elem? m.me.0 k) seat ∙ e)

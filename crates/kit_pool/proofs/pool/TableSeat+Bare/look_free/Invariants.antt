@@ -1,4 +1,4 @@
-use Rattle.kit_pool.specs.Seating.{with_found}
+use Rattle.kit_ground.specs.Steps.{with_found}
 use Rattle.kit_pool.proofs.pool.TableSeat+Bare.look_free.Given as goal
 
 abbrev pub ghosts-load : goal.ghosts-load

@@ -1,4 +1,4 @@
-use Rattle.kit_pool.specs.Seating.{with_found}
+use Rattle.kit_ground.specs.Steps.{with_found}
 use Rattle.kit_pool.proofs.pool.TableSeat+Bare.write_part.Given as goal
 
 abbrev pub ghosts-store : goal.ghosts-store

@@ -12,9 +12,9 @@ load-requires g c =
     let front = g.F.Front.front in
     let next = g.E.Event.next in
     let deed = g.D.Plan.deed in (
-      c.requires.of_it,
-      word_inside rule first front s.number s.federates s.buffers _ _ c.requires.laid s.seat.me s.own next c.args.at c.args.address c.requires.at c.args.table.now.shared.table_id s.within c.requires.sized (λ n. n) deed c.requires.plan,
-      may_find rule first front s.number s.federates s.buffers _ _ c.requires.laid s.seat.me s.own next c.args.at c.args.address c.requires.at _ _ (λ n. n) deed c.requires.plan,
+      c.requires.seat.of_it,
+      word_inside rule first front s.number s.federates s.buffers _ _ (c.requires.seat.as_many, c.requires.seat.as_wide) s.seat.me s.own next c.args.at c.args.address c.requires.at c.args.table.now.shared.table_id s.within c.requires.sized (λ n. n) deed c.requires.plan,
+      may_find rule first front s.number s.federates s.buffers _ _ (c.requires.seat.as_many, c.requires.seat.as_wide) s.seat.me s.own next c.args.at c.args.address c.requires.at _ _ (λ n. n) deed c.requires.plan,
     )
 
 pub invariant_of-self : goal.invariant_of-self
@@ -25,7 +25,7 @@ invariant_of-self g c =
     let front = g.F.Front.front in
     let next = g.E.Event.next in
     let deed = g.D.Plan.deed in
-    let told = was_found rule first front s.number s.federates s.buffers _ _ c.requires.laid s.seat.me s.own next c.args.at c.args.address c.requires.at c.load.new.seat.me deed c.load.result (λ n. n) c.requires.plan c.load.ensures.2 in
+    let told = was_found rule first front s.number s.federates s.buffers _ _ (c.requires.seat.as_many, c.requires.seat.as_wide) s.seat.me s.own next c.args.at c.args.address c.requires.at c.load.new.seat.me deed c.load.result (λ n. n) c.requires.plan c.load.ensures.2 in
     record { within = s.within; bare = told.1 ∙ s.bare; own = own_after_step first s.number s.federates s.buffers s.seat.me.0 s.own _ next _ told.0 }
 
 pub returns-clause-place : goal.returns-clause-place
@@ -36,7 +36,7 @@ returns-clause-place g c =
     let front = g.F.Front.front in
     let next = g.E.Event.next in
     let deed = g.D.Plan.deed in
-    let told = was_found rule first front s.number s.federates s.buffers _ _ c.requires.laid s.seat.me s.own next c.args.at c.args.address c.requires.at c.load.new.seat.me deed c.load.result (λ n. n) c.requires.plan c.load.ensures.2 in told.0
+    let told = was_found rule first front s.number s.federates s.buffers _ _ (c.requires.seat.as_many, c.requires.seat.as_wide) s.seat.me s.own next c.args.at c.args.address c.requires.at c.load.new.seat.me deed c.load.result (λ n. n) c.requires.plan c.load.ensures.2 in told.0
 
 pub returns-clause-told : goal.returns-clause-told
 returns-clause-told g c =
@@ -46,4 +46,4 @@ returns-clause-told g c =
     let front = g.F.Front.front in
     let next = g.E.Event.next in
     let deed = g.D.Plan.deed in
-    let told = was_found rule first front s.number s.federates s.buffers _ _ c.requires.laid s.seat.me s.own next c.args.at c.args.address c.requires.at c.load.new.seat.me deed c.load.result (λ n. n) c.requires.plan c.load.ensures.2 in told.2
+    let told = was_found rule first front s.number s.federates s.buffers _ _ (c.requires.seat.as_many, c.requires.seat.as_wide) s.seat.me s.own next c.args.at c.args.address c.requires.at c.load.new.seat.me deed c.load.result (λ n. n) c.requires.plan c.load.ensures.2 in told.2

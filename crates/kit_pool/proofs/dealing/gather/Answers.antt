@@ -1,6 +1,6 @@
 use Rattle.std.proofs.Common.{◌≡◌, [], refl, ◌∙◌}
-use Rattle.kit_pool.proofs.Dealing.{at_end, each_left, gathered_more}
-use Rattle.kit_pool.proofs.seat.gather.Goals as goal
+use Rattle.kit_pool.proofs.SeatLists.{at_end, each_left, gathered_more}
+use Rattle.kit_pool.proofs.dealing.gather.Goals as goal
 
 pub loop-seat-init : goal.loop-seat-init
 loop-seat-init g c =
@@ -21,7 +21,7 @@ loop-seat-preserved g c =
     let i = c.loop-seat.invariant in
     let is = c.in-Some-pop.ensures.items in
     let id = c.args.table.now.shared.table_id in (
-      c.take_in.ensures.same.0 ∙ i.0,
+      c.take_in.ensures.same.of_it ∙ i.0,
       gathered_more (λ s. s.seat.me.0) _ _ _ _ _ is c.take_in.ensures.places ∙ i.1,
       each_left (λ k s. s.seat.table_id ≡ id) _ _ _ is i.2,
     )
