@@ -1,0 +1,10 @@
+pub mod Sources
+pub mod Slots
+pub mod Inner
+pub mod After
+pub mod Fits
+pub mod Rounds
+pub mod Views
+pub mod Polls
+pub mod Dues
+pub mod Starts
