@@ -21,7 +21,7 @@ import sys
 import tempfile
 
 TOP = os.path.dirname(os.path.dirname(os.path.abspath(__file__)))
-RTIK = os.path.join(TOP, "crates", "rtik", "out", "rtik")
+RTIK = os.path.join(TOP, ".built", "rtik")
 
 
 def federation(end, federates, groups):
