@@ -1,5 +1,5 @@
 -- What holds of each element of a list, and of those that are left, found or joined.
-use Rattle.std.proofs.Common.{ℕ, zero, suc, Bool, true, false, cond, List, [], ◌∷◌, ◌++◌, drop, filter, find, Some, IfSome}
+use Rattle.std.proofs.Common.{◌≡◌, ℕ, zero, suc, Bool, true, false, cond, List, [], ◌∷◌, ◌++◌, drop, filter, find, Some, IfSome, refl}
 use Rattle.std.specs.List.{AllByRecursion}
 
 -- what holds of each of two lists holds of both together
@@ -32,3 +32,8 @@ all_found P p (x ∷ xs) h = elim (p x) as (λ b. IfSome (cond b (Some x) (find 
 pub each_weaker : {X : Type 0} (P Q : X → Type 0) (xs : List X) → ((x : X) → P x → Q x) → AllByRecursion P xs → AllByRecursion Q xs
 each_weaker P Q [] f h = tt
 each_weaker P Q (x ∷ xs) f h = (f x h.0, each_weaker P Q xs f h.1)
+
+-- where none passes a test, none is left
+pub none_pass : {X : Type 0} (test : X → Bool) (xs : List X) → AllByRecursion (λ x. test x ≡ false) xs → filter test xs ≡ []
+none_pass test [] h = refl
+none_pass test (x ∷ xs) h = rw h.0 (none_pass test xs h.1)

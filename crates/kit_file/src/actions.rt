@@ -1,12 +1,14 @@
 //! The places of an action.
 
-ghost use Rattle.std.specs.Prelude.{◌≡◌, ◌+◌, ◌<◌, ◌≤◌, ℕ, [], ◌∷◌, Option, codes, length, map, IfOk, OnOk, All};
+ghost use Rattle.std.specs.Prelude.{◌≡◌, ◌+◌, ◌<◌, ◌≤◌, ℕ, [], ◌∷◌, Option, codes, length, map};
+ghost use Rattle.std.specs.Prelude.{IfOk, OnOk, All};
 ghost use Rattle.serde_json.specs.View.{view};
 ghost use Rattle.serde_json.specs.Find.{get};
 ghost use Rattle.kit_rules.specs.Federation.{IsAction};
 ghost use Rattle.kit_rules.specs.Limits.{most_actions, most_groups, most_vars};
 ghost use Rattle.kit_file.specs.Agreement.{Gives};
-ghost use Rattle.kit_file.specs.Actions.{set_of, add_of, sub_of, retract_of, tar_of, ner_of, last_kinds_of, action_of, action_step, actions_of};
+ghost use Rattle.kit_file.specs.Actions.{set_of, add_of, sub_of, retract_of, tar_of, ner_of};
+ghost use Rattle.kit_file.specs.Actions.{last_kinds_of, action_of, action_step, actions_of};
 
 use crate::fault::{Fault, FaultKind, WalkEnd};
 use crate::lookaheads::needed_at;
@@ -23,7 +25,8 @@ use std::alloc::Global;
 fn set_in(alloc: Global, vars: &[Var], value: &Value) -> Result<Action, WalkEnd>
     requires { length vars.now ≤ most_vars }
     ensures exact { Gives (λ a. a) result (set_of vars.now (view value.now)) }
-    ensures sound { (groups : ℕ) (lookahead : Option ℕ) → IfOk result (λ a. IsAction groups (length vars.now) lookahead a) }
+    ensures sound { (groups : ℕ) (lookahead : Option ℕ) → IfOk result
+        (λ a. IsAction groups (length vars.now) lookahead a) }
 {
     let var = reference_at(alloc, value, "set", vars)?;
     let to = operand_at(alloc, value, "to", vars)?;
@@ -34,7 +37,8 @@ fn set_in(alloc: Global, vars: &[Var], value: &Value) -> Result<Action, WalkEnd>
 fn add_in(alloc: Global, vars: &[Var], value: &Value) -> Result<Action, WalkEnd>
     requires { length vars.now ≤ most_vars }
     ensures exact { Gives (λ a. a) result (add_of vars.now (view value.now)) }
-    ensures sound { (groups : ℕ) (lookahead : Option ℕ) → IfOk result (λ a. IsAction groups (length vars.now) lookahead a) }
+    ensures sound { (groups : ℕ) (lookahead : Option ℕ) → IfOk result
+        (λ a. IsAction groups (length vars.now) lookahead a) }
 {
     let var = reference_at(alloc, value, "add", vars)?;
     let by = operand_at(alloc, value, "by", vars)?;
@@ -45,7 +49,8 @@ fn add_in(alloc: Global, vars: &[Var], value: &Value) -> Result<Action, WalkEnd>
 fn sub_in(alloc: Global, vars: &[Var], value: &Value) -> Result<Action, WalkEnd>
     requires { length vars.now ≤ most_vars }
     ensures exact { Gives (λ a. a) result (sub_of vars.now (view value.now)) }
-    ensures sound { (groups : ℕ) (lookahead : Option ℕ) → IfOk result (λ a. IsAction groups (length vars.now) lookahead a) }
+    ensures sound { (groups : ℕ) (lookahead : Option ℕ) → IfOk result
+        (λ a. IsAction groups (length vars.now) lookahead a) }
 {
     let var = reference_at(alloc, value, "sub", vars)?;
     let by = operand_at(alloc, value, "by", vars)?;
@@ -61,7 +66,8 @@ fn retract_in(
 ) -> Result<Action, WalkEnd>
     requires { length vars.now ≤ most_vars }
     ensures exact { Gives (λ a. a) result (retract_of vars.now lookahead (view value.now)) }
-    ensures sound { (groups : ℕ) → IfOk result (λ a. IsAction groups (length vars.now) lookahead a) }
+    ensures sound { (groups : ℕ) → IfOk result
+        (λ a. IsAction groups (length vars.now) lookahead a) }
 {
     needed_at(alloc, lookahead, "retract")?;
     let var = reference_at(alloc, value, "retract", vars)?;
@@ -71,7 +77,8 @@ fn retract_in(
 #[tactic(auto, unfolding(crate::specs::Actions::tar_of))]
 fn tar_in(alloc: Global, value: &Value) -> Result<Action, WalkEnd>
     ensures exact { Gives (λ a. a) result (tar_of (view value.now)) }
-    ensures sound { (groups vars : ℕ) (lookahead : Option ℕ) → IfOk result (λ a. IsAction groups vars lookahead a) }
+    ensures sound { (groups vars : ℕ) (lookahead : Option ℕ) → IfOk result
+        (λ a. IsAction groups vars lookahead a) }
 {
     let step = number_at(alloc, value, "tar", 1, MOST_TIME)?;
     Ok(Action::Tar { step: step as u32 })
@@ -80,7 +87,8 @@ fn tar_in(alloc: Global, value: &Value) -> Result<Action, WalkEnd>
 #[tactic(auto, unfolding(crate::specs::Actions::ner_of))]
 fn ner_in(alloc: Global, value: &Value) -> Result<Action, WalkEnd>
     ensures exact { Gives (λ a. a) result (ner_of (view value.now)) }
-    ensures sound { (groups vars : ℕ) (lookahead : Option ℕ) → IfOk result (λ a. IsAction groups vars lookahead a) }
+    ensures sound { (groups vars : ℕ) (lookahead : Option ℕ) → IfOk result
+        (λ a. IsAction groups vars lookahead a) }
 {
     let step = number_at(alloc, value, "ner", 1, MOST_TIME)?;
     Ok(Action::Ner { step: step as u32 })
@@ -95,7 +103,8 @@ fn last_kinds_in(
 ) -> Result<Action, WalkEnd>
     requires { length vars.now ≤ most_vars }
     ensures exact { Gives (λ a. a) result (last_kinds_of vars.now lookahead (view value.now)) }
-    ensures sound { (groups : ℕ) → IfOk result (λ a. IsAction groups (length vars.now) lookahead a) }
+    ensures sound { (groups : ℕ) → IfOk result
+        (λ a. IsAction groups (length vars.now) lookahead a) }
 {
     if value.get("retract").is_some() {
         return retract_in(alloc, vars, lookahead, value);
@@ -119,7 +128,8 @@ fn action_in(
 ) -> Result<Action, WalkEnd>
     requires groups { length groups.now ≤ most_groups }
     requires vars { length vars.now ≤ most_vars }
-    ensures exact { Gives (λ a. a) result (action_of groups.now vars.now lookahead (view value.now)) }
+    ensures exact { Gives (λ a. a) result
+        (action_of groups.now vars.now lookahead (view value.now)) }
     ensures sound { IfOk result (λ a. IsAction (length groups.now) (length vars.now) lookahead a) }
 {
     object_here(alloc, value)?;
@@ -151,8 +161,10 @@ fn push_action(
     requires groups { length groups.now ≤ most_groups }
     requires vars { length vars.now ≤ most_vars }
     requires kept { All (IsAction (length groups.now) (length vars.now) lookahead) done.old }
-    ensures exact { Gives (λ _. done.new) result (action_step groups.now vars.now lookahead i done.old (view value.now)) }
-    ensures kept { OnOk result (All (IsAction (length groups.now) (length vars.now) lookahead) done.new) }
+    ensures exact { Gives (λ _. done.new) result
+        (action_step groups.now vars.now lookahead i done.old (view value.now)) }
+    ensures kept { OnOk result
+        (All (IsAction (length groups.now) (length vars.now) lookahead) done.new) }
     ensures count { OnOk result (length done.new ≡ length done.old + 1) }
 {
     match action_in(alloc, groups, vars, lookahead, value) {
@@ -174,9 +186,11 @@ pub(crate) fn actions_in(
 ) -> Result<Items<Action>, WalkEnd>
     requires groups { length groups.now ≤ most_groups }
     requires vars { length vars.now ≤ most_vars }
-    ensures exact { Gives (λ v. v) result (actions_of groups.now vars.now lookahead (view value.now)) }
+    ensures exact { Gives (λ v. v) result
+        (actions_of groups.now vars.now lookahead (view value.now)) }
     ensures few { IfOk result (λ v. length v ≤ most_actions) }
-    ensures sound { IfOk result (λ v. All (IsAction (length groups.now) (length vars.now) lookahead) v) }
+    ensures sound { IfOk result
+        (λ v. All (IsAction (length groups.now) (length vars.now) lookahead) v) }
 {
     let items = list_at(alloc, value, "do", 0, MOST_ACTIONS)?;
     let mut done = Items::new(alloc);

@@ -135,7 +135,8 @@ impl WalkEnd {
         }
     }
 
-    /// The end, with its fault as seen from where the list under a key holds the value that was walked.
+    /// The end, with its fault as seen from where the list under a key holds the value that was
+    /// walked.
     pub(crate) fn under_item(self, alloc: Global, key: &str, i: usize) -> WalkEnd
         ensures { EndsWithin (item_path key.now i) self result }
     {
@@ -178,7 +179,8 @@ impl Fault {
 
     /// The fault, as seen from where a key holds the value.
     fn under_key(self, alloc: Global, key: &str) -> Result<Fault, AllocError>
-        ensures { IfOk result (λ f. f ≡ record { kind = self.kind; path = key_path key.now ++ self.path }) }
+        ensures { IfOk result (λ f. f ≡
+            record { kind = self.kind; path = key_path key.now ++ self.path }) }
     {
         let mut bytes = Vec::from_slice(alloc, b".")?;
         bytes.extend_from_slice(key.as_bytes())?;
@@ -191,7 +193,8 @@ impl Fault {
 
     /// The fault, as seen from where the list under a key holds the value.
     fn under_item(self, alloc: Global, key: &str, i: usize) -> Result<Fault, AllocError>
-        ensures { IfOk result (λ f. f ≡ record { kind = self.kind; path = item_path key.now i ++ self.path }) }
+        ensures { IfOk result (λ f. f ≡
+            record { kind = self.kind; path = item_path key.now i ++ self.path }) }
     {
         let mut bytes = Vec::from_slice(alloc, b".")?;
         bytes.extend_from_slice(key.as_bytes())?;

@@ -1,12 +1,14 @@
 //! The names of the federates.
 
-ghost use Rattle.std.specs.Prelude.{◌≡◌, ◌+◌, IfOk, OnOk, ◌<◌, ◌≤◌, ◌++◌, ◌∷◌, [], codes, map, length};
+ghost use Rattle.std.specs.Prelude.{◌≡◌, ◌+◌, IfOk, OnOk, ◌<◌, ◌≤◌, ◌++◌, ◌∷◌, [], codes, map};
+ghost use Rattle.std.specs.Prelude.{length};
 ghost use Rattle.serde_json.specs.View.{view};
 ghost use Rattle.kit_file.specs.Agreement.{Gives};
 ghost use Rattle.kit_file.specs.Reading.{within};
 ghost use Rattle.kit_file.specs.SoFar.{AreNames, IsNewName};
 ghost use Rattle.kit_file.specs.Names.{itself};
-ghost use Rattle.kit_file.specs.FederateNames.{federate_name_of, federate_name_step, federate_names_of};
+ghost use Rattle.kit_file.specs.FederateNames.{federate_name_of, federate_name_step};
+ghost use Rattle.kit_file.specs.FederateNames.{federate_names_of};
 ghost use Rattle.kit_file.specs.Paths.{item_path};
 
 use crate::fault::WalkEnd;

@@ -1,13 +1,15 @@
 //! The federates in full, once the groups are known.
 
-ghost use Rattle.std.specs.Prelude.{◌≡◌, ◌+◌, IfOk, OnOk, ◌<◌, ◌≤◌, ◌++◌, ◌∷◌, [], codes, map, length, slice_index_or};
+ghost use Rattle.std.specs.Prelude.{◌≡◌, ◌+◌, IfOk, OnOk, ◌<◌, ◌≤◌, ◌++◌, ◌∷◌, [], codes, map};
+ghost use Rattle.std.specs.Prelude.{length, slice_index_or};
 ghost use Rattle.serde_json.specs.View.{view};
 ghost use Rattle.kit_rules.specs.Limits.{most_federates, most_groups};
 ghost use Rattle.kit_file.specs.Agreement.{Gives};
 ghost use Rattle.kit_file.specs.Reading.{within};
 ghost use Rattle.kit_file.specs.SoFar.{AreNames, AreFederatesSoFar};
 ghost use Rattle.kit_file.specs.Names.{itself};
-ghost use Rattle.kit_file.specs.Federates.{wish_of, advance_of, federate_of, federate_step, federates_of};
+ghost use Rattle.kit_file.specs.Federates.{wish_of, advance_of, federate_of, federate_step};
+ghost use Rattle.kit_file.specs.Federates.{federates_of};
 ghost use Rattle.kit_file.specs.Paths.{item_path};
 ghost use Rattle.kit_rules.specs.Names.{IsName};
 ghost use Rattle.kit_rules.specs.Federation.{IsWish, IsFederate, AreFederates};
@@ -61,7 +63,8 @@ fn federate_in(
 ) -> Result<Federate, WalkEnd>
     requires form { IsName name.now }
     requires few { length groups.now ≤ most_groups }
-    ensures exact { Gives (λ f. f) result (federate_of version groups.now name.now (view value.now)) }
+    ensures exact { Gives (λ f. f) result
+        (federate_of version groups.now name.now (view value.now)) }
     ensures sound { IfOk result (λ f. IsFederate (length groups.now) f) }
     ensures called { IfOk result (λ f. f.name ≡ name.now) }
 {
@@ -95,7 +98,8 @@ fn push_federate(
     requires kept { AreFederatesSoFar (length groups.now) names.now done.old }
     ensures kept { OnOk result (AreFederatesSoFar (length groups.now) names.now done.new) }
     ensures count { OnOk result (length done.new ≡ length done.old + 1) }
-    ensures exact { Gives (λ _. done.new) result (federate_step version names.now groups.now i done.old (view value.now)) }
+    ensures exact { Gives (λ _. done.new) result
+        (federate_step version names.now groups.now i done.old (view value.now)) }
 {
     match federate_in(alloc, version, groups, &names[i], value) {
         Ok(federate) => {
@@ -121,7 +125,8 @@ pub(crate) fn federates_in(
     requires given { AreNames itself names.now }
     ensures sound { IfOk result (λ v. AreFederates (length groups.now) v) }
     ensures count { IfOk result (λ v. length v ≡ length names.now) }
-    ensures exact { Gives (λ v. v) result (federates_of version names.now groups.now (map view items.now)) }
+    ensures exact { Gives (λ v. v) result
+        (federates_of version names.now groups.now (map view items.now)) }
 {
     let mut done = Items::new(alloc);
     for (i, item) in items.iter().enumerate() {

@@ -1,13 +1,15 @@
 //! The groups, and the federates that are their members.
 
-ghost use Rattle.std.specs.Prelude.{◌≡◌, ◌+◌, ◌^◌, IfOk, OnOk, ◌<◌, ◌≤◌, ◌++◌, ◌∷◌, [], codes, map, length};
+ghost use Rattle.std.specs.Prelude.{◌≡◌, ◌+◌, ◌^◌, IfOk, OnOk, ◌<◌, ◌≤◌, ◌++◌, ◌∷◌, [], codes, map};
+ghost use Rattle.std.specs.Prelude.{length};
 ghost use Rattle.serde_json.specs.View.{view};
 ghost use Rattle.kit_rules.specs.Limits.{most_federates};
 ghost use Rattle.kit_file.specs.Agreement.{Gives};
 ghost use Rattle.kit_file.specs.Reading.{within};
 ghost use Rattle.kit_file.specs.SoFar.{IsNewName, AreGroupsSoFar};
 ghost use Rattle.kit_file.specs.Names.{itself, group_name};
-ghost use Rattle.kit_file.specs.Groups.{member_of, member_step, members_of, group_of, group_step, groups_of};
+ghost use Rattle.kit_file.specs.Groups.{member_of, member_step, members_of, group_of, group_step};
+ghost use Rattle.kit_file.specs.Groups.{groups_of};
 ghost use Rattle.kit_file.specs.Paths.{item_path};
 ghost use Rattle.kit_rules.specs.Federation.{IsGroup, AreGroups};
 
@@ -99,7 +101,8 @@ fn push_group(
 ) -> Result<(), WalkEnd>
     requires few { length names.now ≤ most_federates }
     requires kept { AreGroupsSoFar (length names.now) done.old }
-    ensures exact { Gives (λ _. done.new) result (group_step names.now i done.old (view value.now)) }
+    ensures exact { Gives (λ _. done.new) result
+        (group_step names.now i done.old (view value.now)) }
     ensures kept { OnOk result (AreGroupsSoFar (length names.now) done.new) }
     ensures count { OnOk result (length done.new ≡ length done.old + 1) }
 {

@@ -10,8 +10,8 @@ pub fn keys_mean()
     ensures { KeysMean }
 {}
 
-/// No place refuses what is within its limit: each number, the length of each list, and each text of
-/// the form of a name that no name before it repeats.
+/// No place refuses what is within its limit: each number, the length of each list, and each text
+/// of the form of a name that no name before it repeats.
 pub fn places_take_their_range()
     ensures numbers { NumbersAreTaken }
     ensures lists { ListsAreTaken }

@@ -1,6 +1,7 @@
 //! Names: where one is given, and where one is referred to.
 
-ghost use Rattle.std.specs.Prelude.{◌≡◌, ◌≢◌, ◌<◌, ◌≤◌, ◌⊎◌, List, ℕ, codes, length, IfSome, IfOk, IsTrue, All};
+ghost use Rattle.std.specs.Prelude.{◌≡◌, ◌≢◌, ◌<◌, ◌≤◌, ◌⊎◌, List, ℕ, codes, length, IfSome, IfOk};
+ghost use Rattle.std.specs.Prelude.{IsTrue, All};
 ghost use Rattle.serde_json.specs.View.{view};
 ghost use Rattle.kit_rules.specs.Names.{IsName};
 ghost use Rattle.kit_file.specs.SoFar.{IsNewName};
@@ -57,7 +58,8 @@ pub(crate) fn new_name_at<'v, T: Named>(
     key: &str,
     done: &[T],
 ) -> Result<&'v str, WalkEnd>
-    ensures exact { Gives (λ s. s.now) result (new_name T.name_of done.now key.now (view value.now)) }
+    ensures exact { Gives (λ s. s.now) result
+        (new_name T.name_of done.now key.now (view value.now)) }
     ensures given { IfOk result (λ s. IsNewName T.name_of done.now s.now) }
 {
     let s = name_at(alloc, value, key)?;

@@ -5,7 +5,8 @@ ghost use Rattle.serde_json.specs.View.{view};
 ghost use Rattle.std.specs.List.{list_any};
 ghost use Rattle.serde_json.specs.Find.{get};
 ghost use Rattle.kit_file.specs.Agreement.{Gives};
-ghost use Rattle.kit_file.specs.Places.{object, member, number, text, list_of, list, optional_list, is_same};
+ghost use Rattle.kit_file.specs.Places.{object, member, number, text, list_of, list, optional_list};
+ghost use Rattle.kit_file.specs.Places.{is_same};
 
 use crate::fault::{Fault, FaultKind, WalkEnd};
 use serde_json::Value;
@@ -115,7 +116,8 @@ pub(crate) fn optional_list_at<'v>(
     key: &str,
     high: usize,
 ) -> Result<&'v [Value], WalkEnd>
-    ensures exact { Gives (λ s. map view s.now) result (optional_list key.now high (get key.now (view value.now))) }
+    ensures exact { Gives (λ s. map view s.now) result
+        (optional_list key.now high (get key.now (view value.now))) }
     ensures range { IfOk result (λ s. length s.now ≤ high) }
 {
     match value.get(key) {

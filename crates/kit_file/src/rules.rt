@@ -1,13 +1,15 @@
 //! The places of a rule.
 
-ghost use Rattle.std.specs.Prelude.{◌≡◌, ◌+◌, ◌<◌, ◌≤◌, ℕ, [], ◌∷◌, codes, length, map, IfOk, OnOk, All};
+ghost use Rattle.std.specs.Prelude.{◌≡◌, ◌+◌, ◌<◌, ◌≤◌, ℕ, [], ◌∷◌, codes, length, map, IfOk, OnOk};
+ghost use Rattle.std.specs.Prelude.{All};
 ghost use Rattle.serde_json.specs.View.{view};
 ghost use Rattle.serde_json.specs.Find.{get};
 ghost use Rattle.kit_rules.specs.Federation.{IsAction, IsCond, IsTrigger, IsRule};
 ghost use Rattle.kit_rules.specs.Limits.{most_conds, most_groups, most_rules, most_vars};
 ghost use Rattle.kit_file.specs.Agreement.{Gives};
 ghost use Rattle.kit_file.specs.Reading.{within};
-ghost use Rattle.kit_file.specs.Rules.{named_comparison, comparison_of, cond_of, cond_step, conds_of, got_of, trigger_of, rule_of, rule_step, rules_of};
+ghost use Rattle.kit_file.specs.Rules.{named_comparison, comparison_of, cond_of, cond_step};
+ghost use Rattle.kit_file.specs.Rules.{conds_of, got_of, trigger_of, rule_of, rule_step, rules_of};
 
 use crate::actions::actions_in;
 use crate::fault::{Fault, FaultKind, WalkEnd};
@@ -172,8 +174,10 @@ fn push_rule(
     requires groups { length groups.now ≤ most_groups }
     requires vars { length vars.now ≤ most_vars }
     requires kept { All (IsRule (length groups.now) (length vars.now) lookahead) done.old }
-    ensures exact { Gives (λ _. done.new) result (rule_step groups.now vars.now lookahead i done.old (view value.now)) }
-    ensures kept { OnOk result (All (IsRule (length groups.now) (length vars.now) lookahead) done.new) }
+    ensures exact { Gives (λ _. done.new) result
+        (rule_step groups.now vars.now lookahead i done.old (view value.now)) }
+    ensures kept { OnOk result
+        (All (IsRule (length groups.now) (length vars.now) lookahead) done.new) }
     ensures count { OnOk result (length done.new ≡ length done.old + 1) }
 {
     match rule_in(alloc, groups, vars, lookahead, value) {
@@ -195,9 +199,11 @@ pub(crate) fn rules_in(
 ) -> Result<Items<Rule>, WalkEnd>
     requires groups { length groups.now ≤ most_groups }
     requires vars { length vars.now ≤ most_vars }
-    ensures exact { Gives (λ v. v) result (rules_of groups.now vars.now lookahead (view value.now)) }
+    ensures exact { Gives (λ v. v) result
+        (rules_of groups.now vars.now lookahead (view value.now)) }
     ensures few { IfOk result (λ v. length v ≤ most_rules) }
-    ensures sound { IfOk result (λ v. All (IsRule (length groups.now) (length vars.now) lookahead) v) }
+    ensures sound { IfOk result
+        (λ v. All (IsRule (length groups.now) (length vars.now) lookahead) v) }
 {
     let items = optional_list_at(alloc, value, "rules", MOST_RULES)?;
     let mut done = Items::new(alloc);

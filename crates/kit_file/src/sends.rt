@@ -21,7 +21,8 @@ use std::alloc::Global;
 
 fn keep_at(alloc: Global, value: &Value, vars: &[Var]) -> Result<Option<u8>, WalkEnd>
     requires { length vars.now ≤ most_vars }
-    ensures exact { Gives (λ k. k) result (keep_of vars.now (view value.now) (get (codes "keep") (view value.now))) }
+    ensures exact { Gives (λ k. k) result
+        (keep_of vars.now (view value.now) (get (codes "keep") (view value.now))) }
     ensures sound { IfOk result (λ k. IfSome k (λ v. v < length vars.now)) }
 {
     match value.get("keep") {

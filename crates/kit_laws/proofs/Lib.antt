@@ -2,6 +2,7 @@ pub mod Sane
 pub mod Joins
 pub mod Numbers
 pub mod Worlds
+pub mod OwnSends
 pub mod Pendings
 pub mod Least
 pub mod Sanity

@@ -1,6 +1,7 @@
 //! Laws of the sequential simulation: each is the contract of a function that does nothing.
 
-ghost use Rattle.kit_laws.specs.Laws.{GrantsRise, GrantsEnd, FewGrants, LastGrants, OneSimulation, BlocksAscend, OutstandingStays, NeedIsGreatest};
+ghost use Rattle.kit_laws.specs.Laws.{GrantsRise, GrantsEnd, FewGrants, LastGrants, OneSimulation};
+ghost use Rattle.kit_laws.specs.Laws.{BlocksAscend, OutstandingStays, NeedIsGreatest};
 
 /// Of two grants that follow each other the second has the later due time, or the same and the
 /// greater federate.

@@ -1,6 +1,6 @@
 -- Counts of old copies.
-use Rattle.std.proofs.Common.{◌≡◌, ℕ, ◌<◌, ◌≤◌, ◌+◌, cond, List, [], ◌∷◌, ◌++◌, length, arith, refl, ap}
-use Rattle.std.specs.List.{All}
+use Rattle.std.proofs.Common.{◌≡◌, ℕ, ◌<◌, ◌≤◌, ◌+◌, ◌==◌, nat_lt, Bool, true, false, cond, List, [], ◌∷◌, ◌++◌, length, arith, refl, ap}
+use Rattle.std.specs.List.{All, count_by}
 use Rattle.std.proofs.lemmas.Bool.{lt-ltb, le-ltb}
 use Rattle.std.proofs.lemmas.Bool.Decides.{nat_tests}
 use Rattle.std.proofs.lemmas.List.Elements.{All-head, All-tail}
@@ -49,3 +49,25 @@ none_old run (c ∷ cs) above =
 
 pub new_copies_do_not_count : NewCopiesDoNotCount
 new_copies_do_not_count run colours more above = omega (arith, old_count-append run colours more, none_old run more above)
+
+-- what is older than the next colour is older than a colour, or has it
+older_or_own : (x c : ℕ) (a b e : Bool) → nat_lt x (c + 1) ≡ a → nat_lt x c ≡ b → (x == c) ≡ e → cond a 1 0 ≡ cond b 1 0 + cond e 1 0
+older_or_own x c true true true p q r = absurd (grind (arith, p, q, r))
+older_or_own x c true true false p q r = refl
+older_or_own x c true false true p q r = refl
+older_or_own x c true false false p q r = absurd (grind (arith, p, q, r))
+older_or_own x c false true true p q r = absurd (grind (arith, p, q, r))
+older_or_own x c false true false p q r = absurd (grind (arith, p, q, r))
+older_or_own x c false false true p q r = absurd (grind (arith, p, q, r))
+older_or_own x c false false false p q r = refl
+
+-- a run later, the copies of one more colour are old
+pub old_more : (c : ℕ) (xs : List ℕ) → old_count (c + 1) xs ≡ old_count c xs + count_by (λ (x : ℕ). x == c) xs
+old_more c [] = refl
+old_more c (x ∷ xs) =
+    let a = sum_by-cons (counted (c + 1)) x xs in
+    let b = sum_by-cons (counted c) x xs in
+    let e = sum_by-cons (λ (y : ℕ). cond (y == c) 1 0) x xs in
+    let one = older_or_own x c (nat_lt x (c + 1)) (nat_lt x c) (x == c) refl refl refl in
+    let more = old_more c xs in
+    omega (arith, a, b, e, one, more)

@@ -3,6 +3,8 @@ use Rattle.std.proofs.Common.{◌≡◌, suc, ◌<◌, ◌+◌, List, [], ◌∷
 use Rattle.std.specs.List.{All, AllPairs}
 use Rattle.std.proofs.Math.ListN.{get_or-append}
 use Rattle.std.proofs.Math.Seq.{get_or-append_seam}
+use Rattle.std.proofs.lemmas.List.Elements.{All-append, All-head, All-tail}
+use Rattle.std.proofs.lemmas.List.Kept.{AllPairs-cons}
 
 -- the first stands so to each of the others
 pub pairs_head : {X : Type 0} (R : X → X → Type 0) (x : X) (xs : List X) → AllPairs R (x ∷ xs) → All (R x) xs
@@ -26,3 +28,11 @@ pairs_last R xs y h k d lt =
     let both = h k (length xs) d lt (omega arith) in
     let first = subst (λ x. R x (get_or (xs ++ y ∷ []) (length xs) d)) (get_or-append xs (y ∷ []) d k lt) both in
     subst (λ z. R (get_or xs k d) z) (get_or-append_seam xs y [] d) first
+
+-- two lists whose elements stand so, each of the first to each of the second too, are one such list
+pub pairs_append : {X : Type 0} (R : X → X → Type 0) (xs ys : List X) → AllPairs R xs → AllPairs R ys → All (λ (x : X). All (R x) ys) xs → AllPairs R (xs ++ ys)
+pairs_append R [] ys a b across = b
+pairs_append R (x ∷ xs) ys a b across =
+    AllPairs-cons R x (xs ++ ys)
+    (All-append (R x) xs ys (pairs_head R x xs a) (All-head (λ z. All (R z) ys) x xs across))
+    (pairs_append R xs ys (pairs_tail R x xs a) b (All-tail (λ z. All (R z) ys) x xs across))

@@ -16,7 +16,8 @@ pub enum JournalEntry {
     },
     /// An Event was given to the federate's rules.
     Delivered {
-        /// The time of the grant with which it was delivered: the message's own time or a later one.
+        /// The time of the grant with which it was delivered: the message's own time or a later
+        /// one.
         granted: u64,
         /// The Event.
         message: Message,
@@ -30,8 +31,8 @@ pub enum JournalEntry {
 
 /// What happened to a federate, in order.
 ///
-/// Contracts see a journal as the list `entries` and the number `spare`, which says for how many more
-/// entries memory is set aside. Only `reserve` takes memory.
+/// Contracts see a journal as the list `entries` and the number `spare`, which says for how many
+/// more entries memory is set aside. Only `reserve` takes memory.
 #[derive(Debug, Drop)]
 pub struct Journal {
     entries: Vec<JournalEntry>,

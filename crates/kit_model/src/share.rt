@@ -1,7 +1,8 @@
 ghost use Rattle.std.specs.Prelude.{◌≡◌, ◌+◌, ◌^◌, ◌<◌};
 ghost use Rattle.kit_model.specs.Shares.{share_sum, FitsWord, share_word, share_of};
 
-/// What a federate contributes to a round of the reduction, or what some federates contribute together.
+/// What a federate contributes to a round of the reduction, or what some federates contribute
+/// together.
 #[derive(Clone, Copy, Debug, PartialEq, Eq)]
 pub struct Share {
     /// How many old copies were posted, from the start on.
@@ -25,8 +26,8 @@ pub fn join_shares(a: Share, b: Share) -> Share
     }
 }
 
-/// A share in one word, with its round: from the low bits, 22 each for the counts, 17 for the low, and
-/// 3 for the round modulo 8.
+/// A share in one word, with its round: from the low bits, 22 each for the counts, 17 for the low,
+/// and 3 for the round modulo 8.
 pub fn pack_share(share: Share, round: u64) -> u64
     requires { FitsWord share }
     ensures { result ≡ share_word share round }

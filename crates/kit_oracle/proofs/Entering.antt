@@ -6,13 +6,15 @@ use Rattle.std.specs.declared.cmp.Ordering.{Ordering}
 use Rattle.std.specs.declared.cmp.Ordering.TheVariants.{Less, Equal, Greater}
 use Rattle.std.proofs.lemmas.Bool.{cases_Bool, and_from, eq-eqb, leb-false, lt-leb}
 use Rattle.kit_base.specs.declared.message.Message.{Message}
-use Rattle.kit_base.specs.Order.{key_cmp, put, in_order}
+use Rattle.kit_base.specs.Order.{in_order, is_before, key_cmp, put}
 use Rattle.kit_rules.specs.Parts.{Parts}
 use Rattle.kit_rules.specs.Delivery.{is_same, pending_messages, due_messages}
 use Rattle.kit_oracle.specs.Pending.{queue_with, front_until, rest_after}
 use Rattle.kit_oracle.proofs.Keeping.{same_key}
-use Rattle.kit_oracle.proofs.Ordered.{Up, weaker, none_left}
-use Rattle.kit_oracle.proofs.Fronts.{before, not_before, up_in_order, due_is_front, left_is_back}
+use Rattle.kit_base.proofs.Filtering.{Up, up_in_order}
+use Rattle.kit_base.proofs.Lists.{each_weaker, none_pass}
+use Rattle.kit_base.proofs.Orders.{not_before}
+use Rattle.kit_oracle.proofs.Fronts.{due_is_front, left_is_back}
 
 -- a message whose key is new is put in its place
 pub enter_new : (m : Message) (xs : List Message) → list_any (is_same m) xs ≡ false → queue_with m xs ≡ put m xs
@@ -35,18 +37,18 @@ enter_new m (x ∷ xs) h =
     by_order Greater f r = ap (λ ys. x ∷ ys) r
 
 -- behind one that is late all are
-late_behind : (d : ℕ) (x : Message) (xs : List Message) → nat_le x.time d ≡ false → AllByRecursion (λ (y : Message). before y x ≡ false) xs → AllByRecursion (λ (y : Message). nat_le y.time d ≡ false) xs
+late_behind : (d : ℕ) (x : Message) (xs : List Message) → nat_le x.time d ≡ false → AllByRecursion (λ (y : Message). is_before y x ≡ false) xs → AllByRecursion (λ (y : Message). nat_le y.time d ≡ false) xs
 late_behind d x xs e u =
-    weaker before (λ (y : Message). before y x ≡ false) (λ (y : Message). nat_le y.time d ≡ false) xs
+    each_weaker (λ (y : Message). is_before y x ≡ false) (λ (y : Message). nat_le y.time d ≡ false) xs
     (λ y up. let le : x.time ≤ y.time = not_before y x up in let lt : d < x.time = leb-false x.time d e in lt-leb y.time d (omega arith)) u
 
 -- the front of a list in order is all that is timed d or less
-front_is : (d : ℕ) (xs : List Message) → Up before xs → front_until d xs ≡ filter (λ (m : Message). nat_le m.time d) xs
+front_is : (d : ℕ) (xs : List Message) → Up xs → front_until d xs ≡ filter (λ (m : Message). nat_le m.time d) xs
 front_is d [] u = refl
 front_is d (x ∷ xs) u =
     elim (cases_Bool (nat_le x.time d)) [
       | inl e ↦ rw e (ap (λ ys. x ∷ ys) (front_is d xs u.1))
-      | inr e ↦ rw e (sym (none_left before (λ (m : Message). nat_le m.time d) xs (late_behind d x xs e u.0)))
+      | inr e ↦ rw e (sym (none_pass (λ (m : Message). nat_le m.time d) xs (late_behind d x xs e u.0)))
     ]
 
 -- a filter of what passes leaves all
@@ -55,7 +57,7 @@ all_left t [] h = refl
 all_left t (x ∷ xs) h = rw h.0 (ap (λ ys. x ∷ ys) (all_left t xs h.1))
 
 -- and what is behind it is the rest
-behind_is : (d : ℕ) (xs : List Message) → Up before xs → rest_after d xs ≡ filter (λ (m : Message). not (nat_le m.time d)) xs
+behind_is : (d : ℕ) (xs : List Message) → Up xs → rest_after d xs ≡ filter (λ (m : Message). not (nat_le m.time d)) xs
 behind_is d [] u = refl
 behind_is d (x ∷ xs) u =
     elim (cases_Bool (nat_le x.time d)) [

@@ -15,8 +15,9 @@ use Rattle.kit_rules.proofs.Growth.{AreNumbered}
 use Rattle.kit_laws.proofs.Fitting.{all_in_order}
 use Rattle.kit_laws.proofs.Numbers.{gained}
 use Rattle.kit_laws.proofs.Worlds.{grows_by_grant}
-use Rattle.kit_oracle.proofs.Numbering.{from, Below, OwnSends, granted_counted}
-use Rattle.kit_oracle.proofs.Starting.{Backward, LowerThan, Timed, Told, told, not_got, not_retracted, number_at, under_at, lower_of_below, of_own, own_numbered, each_timed, granted_backward}
+use Rattle.kit_laws.proofs.OwnSends.{from, own_numbered}
+use Rattle.kit_oracle.proofs.Numbering.{Below, OwnSends, granted_counted}
+use Rattle.kit_oracle.proofs.Starting.{Backward, LowerThan, Timed, Told, told, not_got, not_retracted, number_at, under_at, lower_of_below, of_own, each_timed, granted_backward}
 use Rattle.kit_oracle.proofs.Showing.{AreFresh}
 
 -- what holds of all holds of one among them

@@ -5,43 +5,16 @@ use Rattle.std.specs.Ordering.{is_lt}
 use Rattle.std.proofs.lemmas.Bool.{cases_Bool, cases_lt, and_from, lt-ltb, leb-true, ne_eqb}
 use Rattle.std.proofs.lemmas.Bool.Decides.{leb_tells}
 use Rattle.kit_base.specs.declared.message.Message.{Message}
+use Rattle.kit_base.proofs.Filtering.{Up, filter_both, filter_in_order, up_in_order}
 use Rattle.kit_base.proofs.Lists.{each_weaker}
+use Rattle.kit_base.proofs.Orders.{not_before}
 use Rattle.kit_rules.specs.declared.table.Request.TheVariants as request
 use Rattle.kit_rules.specs.Parts.{Parts}
 use Rattle.kit_rules.specs.Step.{is_event}
-use Rattle.kit_base.specs.Order.{key_cmp, is_before, put, in_order}
-use Rattle.kit_rules.specs.Delivery.{is_same, retracts, is_transported, has_bit, receivers_of, is_pending, pending_messages, is_due, due_messages, due_time}
-use Rattle.kit_oracle.specs.Pending.{earliest_time}
-use Rattle.kit_oracle.proofs.Ordered.{key_order, place, arranged, Up, up_arranged, filter_arranged}
+use Rattle.kit_base.specs.Order.{is_before, put, in_order}
+use Rattle.kit_rules.specs.Delivery.{is_same, retracts, is_transported, has_bit, receivers_of, is_pending, pending_messages, is_due, due_messages, due_time, request_due}
+use Rattle.kit_oracle.specs.Pending.{first_time}
 use Rattle.kit_laws.proofs.Pendings.{filter_each, any_filter_here, any_filter_more, same_self, pending_got, pending_front, pending_sent, not_false, any_left, any_right, any_in_order}
-
--- the order of messages, as a test
-abbrev pub before : Message → Message → Bool
-before a b = is_lt (key_cmp a b)
-
--- putting in order is the general one at this order
-put_is : (m : Message) (xs : List Message) → put m xs ≡ place before m xs
-put_is m [] = refl
-put_is m (x ∷ xs) = ap (λ ys. cond (before m x) (m ∷ x ∷ xs) (x ∷ ys)) (put_is m xs)
-
--- so is putting all in order
-order_is : (acc xs : List Message) → fold (λ (sorted : List Message) (m : Message). put m sorted) acc xs ≡ arranged before acc xs
-order_is acc [] = refl
-order_is acc (x ∷ xs) = order_is (put x acc) xs ∙ ap (λ ys. arranged before ys xs) (put_is x acc)
-
--- a filter of messages in order is the filtered messages in order
-pub filter_in_order : (q : Message → Bool) (xs : List Message) → filter q (in_order xs) ≡ in_order (filter q xs)
-filter_in_order q xs = ap (filter q) (order_is [] xs) ∙ filter_arranged before key_order q [] xs tt ∙ sym (order_is [] (filter q xs))
-
--- a filter by two tests is a filter after a filter
-pub filter_both : {X : Type 0} (p q : X → Bool) (xs : List X) → filter (λ x. p x && q x) xs ≡ filter p (filter q xs)
-filter_both p q [] = refl
-filter_both p q (x ∷ xs) =
-    elim (q x) as (λ b. cond (p x && b) (x ∷ filter (λ x. p x && q x) xs) (filter (λ x. p x && q x) xs) ≡ filter p (cond b (x ∷ filter q xs) (filter q xs))) [
-      | true ↦ elim (p x) as (λ c. cond (c && true) (x ∷ filter (λ x. p x && q x) xs) (filter (λ x. p x && q x) xs) ≡ cond c (x ∷ filter p (filter q xs)) (filter p (filter q xs)))
-          [ true ↦ ap (λ ys. x ∷ ys) (filter_both p q xs) | false ↦ filter_both p q xs ]
-      | false ↦ elim (p x) as (λ c. cond (c && false) (x ∷ filter (λ x. p x && q x) xs) (filter (λ x. p x && q x) xs) ≡ filter p (filter q xs)) [ true ↦ filter_both p q xs | false ↦ filter_both p q xs ]
-    ]
 
 -- what is due is the front, within d, of what is pending in order
 pub due_is_front : (p : Parts) (i d : ℕ) (got sent : List Message) → due_messages p i d got sent ≡ filter (λ (m : Message). nat_le m.time d) (in_order (pending_messages p i got sent))
@@ -72,27 +45,19 @@ earliest_arranged t acc [] = refl
 earliest_arranged t acc (x ∷ xs) =
     earliest_arranged t (put x acc) xs ∙ ap (λ n. earliest n xs) (earliest_put t x acc ∙ earliest_min t x.time acc)
 
--- a message that is not before another is not earlier
-pub not_before : (y m : Message) → before y m ≡ false → m.time ≤ y.time
-not_before y m h = elim (cases_lt y.time m.time) [ inl lt ↦ absurd (let e = rw (lt-ltb y.time m.time lt) at h in cc) | inr ge ↦ ge ]
-
 -- a time below all others is the least
 earliest_same : (t : ℕ) (ms : List Message) → AllByRecursion (λ (m : Message). t ≤ m.time) ms → earliest t ms ≡ t
 earliest_same t [] h = refl
 earliest_same t (m ∷ ms) h = ap (λ n. earliest n ms) (let le : t ≤ m.time = h.0 in let e : min t m.time ≡ t = omega arith in e) ∙ earliest_same t ms h.1
 
 -- of messages in order the first has the least time
-earliest_up : (t : ℕ) (ms : List Message) → Up before ms → earliest t ms ≡ earliest_time t ms
+earliest_up : (t : ℕ) (ms : List Message) → Up ms → earliest t ms ≡ request_due (request.Ner t) (first_time ms)
 earliest_up t [] u = refl
 earliest_up t (m ∷ ms) u =
-    earliest_same (min t m.time) ms (each_weaker (λ (y : Message). before y m ≡ false) (λ (y : Message). min t m.time ≤ y.time) ms (λ y h. let le : m.time ≤ y.time = not_before y m h in omega arith) u.0)
-
--- messages put in order are in order
-pub up_in_order : (ms : List Message) → Up before (in_order ms)
-up_in_order ms = let P : List Message → Type 0 = Up before in subst P (sym (order_is [] ms)) (up_arranged before key_order [] ms tt)
+    earliest_same (min t m.time) ms (each_weaker (λ (y : Message). is_before y m ≡ false) (λ (y : Message). min t m.time ≤ y.time) ms (λ y h. let le : m.time ≤ y.time = not_before y m h in omega arith) u.0)
 
 -- a request for the next event is due at the first of what is pending in order
-pub due_is_first : (t : ℕ) (ms : List Message) → due_time (request.Ner t) ms ≡ earliest_time t (in_order ms)
+pub due_is_first : (t : ℕ) (ms : List Message) → due_time (request.Ner t) ms ≡ request_due (request.Ner t) (first_time (in_order ms))
 due_is_first t ms = sym (earliest_arranged t [] ms) ∙ earliest_up t (in_order ms) (up_in_order ms)
 
 -- two tests that agree on a list leave the same of it

@@ -14,7 +14,7 @@ use Rattle.std.proofs.lemmas.Bool.{and_parts, eqb-true}
 use Rattle.kit_base.specs.declared.message.Message.{Message}
 use Rattle.kit_base.specs.Order.{key_cmp}
 use Rattle.kit_oracle.specs.declared.pending.Key.{Key}
-use Rattle.kit_oracle.specs.Pending.{compare_keys, key_of, queue_with, front_until, earliest_time, has_key, without_key, AreKeyed}
+use Rattle.kit_oracle.specs.Pending.{compare_keys, key_of, queue_with, front_until, first_time, has_key, without_key, AreKeyed}
 use Rattle.kit_oracle.proofs.Removing.{remove_is_filter}
 
 -- a message has the key with which its own compares equal
@@ -99,9 +99,9 @@ remove_takes k es h sorted =
     ∙ filter_values (is_at (compare_keys k)) (has_key k.time k.sender k.number) es (λ x. sym (key_tied k x)) h
 
 -- the first message's time
-pub first_is : (t : ℕ) (es : List (Key × Message)) (k : Key) (m : Message) → slice_get es 0 ≡ Some (k, m) → earliest_time t (values_of es) ≡ min t m.time
-first_is t [] k m h = absurd (cc)
-first_is t (e ∷ es) k m h = ap (λ (x : Message). min t x.time) (let s : e ≡ (k, m) = cc in ap (λ (p : Key × Message). p.1) s)
+pub first_is : (es : List (Key × Message)) (k : Key) (m : Message) → slice_get es 0 ≡ Some (k, m) → first_time (values_of es) ≡ Some m.time
+first_is [] k m h = absurd (cc)
+first_is (e ∷ es) k m h = ap (λ (x : Message). Some x.time) (let s : e ≡ (k, m) = cc in ap (λ (p : Key × Message). p.1) s)
 
 -- the first message is too late, and so is the rest
 pub none_at_front : (d : ℕ) (es : List (Key × Message)) (k : Key) (m : Message) → slice_get es 0 ≡ Some (k, m) → d < m.time → front_until d (values_of es) ≡ []

@@ -1,6 +1,5 @@
 mod Observed
 mod Later
-mod Ordered
 mod Fronts
 mod Posts
 mod Numbering

@@ -16,11 +16,8 @@ use Rattle.kit_rules.specs.Delivery.{is_due, due_messages}
 use Rattle.kit_rules.specs.Simulation.{Seat, World, seat_at, nobody_seated, seat_after_pair, world_after_grant, after_deliveries}
 use Rattle.kit_laws.proofs.Fitting.{all_in_order}
 use Rattle.kit_laws.proofs.Numbers.{gained}
+use Rattle.kit_laws.proofs.OwnSends.{from, own_after_grant}
 use Rattle.kit_laws.proofs.Worlds.{grows_by_grant}
-
--- whether a message is of federate k
-abbrev pub from : ℕ → Message → Bool
-from k x = nat_eq x.sender k
 
 -- deliveries keep the aims of Retractions
 aimed_by_deliveries : (p : Parts) (i d : ℕ) (s : State) (due : List Message) → Aimed s → Aimed (after_deliveries p i d s due)
@@ -48,16 +45,6 @@ pub record OwnSends (w : World) (k : ℕ) : Type 0 where
 pub record Counted (w : World) : Type 0 where
   pub below : AllByRecursion (Below w) w.messages
   pub each : (k : ℕ) → k < length w.seats → OwnSends w k
-
--- a federate's own messages are all of them
-pub filter_own : (k n : ℕ) (ms : List Message) → AreNumbered k n ms → filter (from k) ms ≡ ms
-filter_own k n [] h = refl
-filter_own k n (m ∷ ms) h = rw (eq-eqb m.sender k h.0) (ap (λ xs. m ∷ xs) (filter_own k (n + 1) ms h.2))
-
--- and none of another's
-pub filter_other : (k j n : ℕ) (ms : List Message) → j ≢ k → AreNumbered k n ms → filter (from j) ms ≡ []
-filter_other k j n [] ne h = refl
-filter_other k j n (m ∷ ms) ne h = rw (ne_eqb m.sender j (λ e. ne (sym e ∙ h.0))) (filter_other k j (n + 1) ms ne h.2)
 
 -- below the next, for a list that is numbered
 pub below_numbered : (w : World) (k n : ℕ) (ms : List Message) → AreNumbered k n ms → n + length ms ≤ (seat_at w k).state.next → AllByRecursion (Below w) ms
@@ -100,7 +87,6 @@ granted_counted p w g lt c =
           let has : k < length w.seats = omega (arith, length-set w.seats g.1 new) in
           elim (cases_eq k g.1) [
             | inl e ↦ (let Q : ℕ → Type 0 = λ k. OwnSends v k in
-                let S : Seat → Type 0 = λ s. filter (from g.1) v.messages ≡ s.state.sends in
                 let T : Seat → Type 0 = λ s. AreNumbered g.1 1 s.state.sends in
                 let U : Seat → Type 0 = λ s. s.state.next ≡ 1 + length s.state.sends in
                 let V : Seat → Type 0 = λ s. Aimed s.state in
@@ -110,8 +96,7 @@ granted_counted p w g lt c =
                 let due : AllByRecursion (Below v) (due_messages p g.1 g.0 old.got w.messages) =
                 up (due_messages p g.1 g.0 old.got w.messages) (all_in_order (Below w) [] (filter (is_due p g.1 g.0 old.got w.messages) w.messages) tt (all_filter (Below w) (is_due p g.1 g.0 old.got w.messages) w.messages c.below)) in
                 subst Q (sym e) (record {
-                  own = subst S (sym here) (filter-append (from g.1) w.messages made ∙ ap (λ xs. xs ++ filter (from g.1) made) o.own
-                      ∙ ap (λ xs. old.state.sends ++ filter (from g.1) xs) is ∙ ap (λ xs. old.state.sends ++ xs) (filter_own g.1 old.state.next gr.made gr.numbered) ∙ sym gr.sends);
+                  own = own_after_grant p w g g.1 lt o.own;
                   numbered = subst T (sym here) (subst L (sym gr.sends) (AreNumbered-append g.1 1 old.state.sends gr.made o.numbered (subst K o.next gr.numbered)));
                   next = subst U (sym here) (omega (arith, gr.next, o.next, ap length gr.sends, length-append old.state.sends gr.made));
                   aimed = subst V (sym here) (aimed_by_grant p w g o.aimed);
@@ -119,14 +104,12 @@ granted_counted p w g lt c =
                 }))
             | inr ne ↦ (let same : seat_at v k ≡ seat_at w k = get_or-set_other w.seats g.1 k new nobody_seated ne in
                 let b = c.each k has in
-                let S : Seat → Type 0 = λ s. filter (from k) v.messages ≡ s.state.sends in
                 let T : Seat → Type 0 = λ s. AreNumbered k 1 s.state.sends in
                 let U : Seat → Type 0 = λ s. s.state.next ≡ 1 + length s.state.sends in
                 let V : Seat → Type 0 = λ s. Aimed s.state in
                 let W : Seat → Type 0 = λ s. AllByRecursion (Below v) s.got in
                 record {
-                  own = subst S (sym same) (filter-append (from k) w.messages made ∙ ap (λ xs. filter (from k) w.messages ++ filter (from k) xs) is
-                      ∙ ap (λ xs. filter (from k) w.messages ++ xs) (filter_other g.1 k old.state.next gr.made ne gr.numbered) ∙ append-nil (filter (from k) w.messages) ∙ b.own);
+                  own = own_after_grant p w g k lt b.own;
                   numbered = subst T (sym same) b.numbered;
                   next = subst U (sym same) b.next;
                   aimed = subst V (sym same) b.aimed;

@@ -20,7 +20,8 @@ use Rattle.kit_oracle.specs.Desks.{desk_at, desks_of}
 use Rattle.kit_oracle.specs.Times.{count_later, is_later, count_sent_later}
 use Rattle.kit_oracle.specs.Observing.{IsGrant}
 use Rattle.kit_oracle.specs.Needing.{AreNeeds}
-use Rattle.kit_oracle.proofs.Numbering.{from, Counted}
+use Rattle.kit_laws.proofs.OwnSends.{from}
+use Rattle.kit_oracle.proofs.Numbering.{Counted}
 use Rattle.kit_oracle.proofs.Starting.{told}
 use Rattle.kit_oracle.proofs.Showing.{desk_shown, length_shown}
 

@@ -9,7 +9,8 @@ use Rattle.kit_rules.specs.Parts.{Parts}
 use Rattle.kit_rules.specs.Step.{is_event}
 use Rattle.kit_base.specs.Order.{put, in_order}
 use Rattle.kit_rules.specs.Delivery.{is_same, retracts, is_transported, has_bit, receivers_of, is_pending, pending_messages}
-use Rattle.kit_oracle.proofs.Fronts.{filter_in_order, filter_same, filter_both, any_both}
+use Rattle.kit_base.proofs.Filtering.{filter_both, filter_in_order}
+use Rattle.kit_oracle.proofs.Fronts.{filter_same, any_both}
 
 -- the last message is put in its place last
 in_order_push : (acc xs : List Message) (m : Message) → fold (λ (sorted : List Message) (m : Message). put m sorted) acc (xs ++ m ∷ []) ≡ put m (fold (λ (sorted : List Message) (m : Message). put m sorted) acc xs)

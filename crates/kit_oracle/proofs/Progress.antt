@@ -27,7 +27,7 @@ use Rattle.kit_oracle.specs.Ends.{oracle_end, IfSpentAt, IfSpent}
 use Rattle.kit_oracle.specs.Pending.{front_until}
 use Rattle.kit_oracle.specs.Observing.{IsGrant}
 use Rattle.kit_oracle.specs.Desks.{waiting_at, desk_after_turn_at, desk_at, desks_after_messages, desks_after_grant, desk_of_seat, desks_of_seats_from, desks_of}
-use Rattle.kit_oracle.proofs.Numbering.{from}
+use Rattle.kit_laws.proofs.OwnSends.{from}
 use Rattle.kit_oracle.proofs.Starting.{told}
 use Rattle.kit_oracle.proofs.Entering.{front_is_due}
 use Rattle.kit_oracle.proofs.Showing.{waiting_shown, length_shown, post_each, desk_shown, turn_shown, grant_shown}

@@ -10,19 +10,19 @@ use Rattle.kit_rules.specs.declared.table.Request.{Request}
 use Rattle.kit_rules.specs.declared.table.Request.TheVariants as request
 use Rattle.kit_rules.specs.Parts.{Parts}
 use Rattle.kit_rules.specs.Step.{is_event}
-use Rattle.kit_rules.specs.Delivery.{has_bit, receivers_of, is_transported, is_same, retracts, is_pending, pending_messages, due_messages, due_time}
+use Rattle.kit_rules.specs.Delivery.{has_bit, receivers_of, is_transported, is_same, retracts, is_pending, pending_messages, due_messages, due_time, request_due}
 use Rattle.kit_rules.specs.Simulation.{Seat, World, request_at, after_block, seat_due, waiting_from, seat_after_grant, seat_after_pair, world_after_grant, seat_at, nobody_seated}
 use Rattle.kit_laws.proofs.Fitting.{all_in_order}
 use Rattle.kit_oracle.specs.declared.desk.Desk.{Desk}
-use Rattle.kit_oracle.specs.Pending.{queue_with, rest_after, queue_after_message, without_key}
-use Rattle.kit_oracle.specs.Desks.{due_in, waiting_at, desk_after_turn, desk_after_turn_at, desk_at, nobody_there, receiver_mask, desks_after_message_from, desks_after_messages, desks_after_grant, desk_of_seat, desks_of_seats_from, desks_of}
+use Rattle.kit_oracle.specs.Pending.{first_time, queue_with, rest_after, queue_after_message, without_key}
+use Rattle.kit_oracle.specs.Desks.{waiting_at, desk_after_turn, desk_after_turn_at, desk_at, nobody_there, receiver_mask, desks_after_message_from, desks_after_messages, desks_after_grant, desk_of_seat, desks_of_seats_from, desks_of}
 use Rattle.kit_oracle.proofs.Fronts.{due_is_first}
 use Rattle.kit_oracle.proofs.Posts.{event_posted, retraction_posted}
 use Rattle.kit_oracle.proofs.Starting.{Timed, retraction_by_key}
 use Rattle.kit_oracle.proofs.Entering.{enter_new, front_is_due, behind_is_left}
 
 -- a request is due at the front of what is in order
-due_shown : (r : Request) (ms : List Message) → due_in r (in_order ms) ≡ due_time r ms
+due_shown : (r : Request) (ms : List Message) → request_due r (first_time (in_order ms)) ≡ due_time r ms
 due_shown (request.Tar t) ms = refl
 due_shown (request.Ner t) ms = sym (due_is_first t ms)
 

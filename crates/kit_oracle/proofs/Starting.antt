@@ -20,18 +20,8 @@ use Rattle.kit_rules.specs.Simulation.{Seat, World, world_at_start, seat_at_star
 use Rattle.kit_oracle.specs.Pending.{has_key, without_key}
 use Rattle.kit_laws.proofs.Worlds.{grows_by_start}
 use Rattle.kit_oracle.proofs.Fronts.{filter_same}
-use Rattle.kit_oracle.proofs.Numbering.{from, Below, OwnSends, Counted, filter_own, filter_other, below_numbered, aimed_by_grant, granted_counted}
-
--- what the federates from number a on send at the start
-abbrev starts : Parts → ℕ → ℕ → List Message
-starts p a n = flat_map (λ (s : Seat). s.state.sends) (map (seat_at_start p) (range_with_len a n))
-
--- a federate's messages at the start are numbered from 1
-pub own_numbered : (p : Parts) (i : ℕ) → AreNumbered i 1 (seat_at_start p i).state.sends
-own_numbered p i =
-    let gr = grows_by_start p i in
-    let L : List Message → Type 0 = AreNumbered i 1 in
-    subst L (sym gr.sends) gr.numbered
+use Rattle.kit_laws.proofs.OwnSends.{from, own_at_start, own_numbered, seat_started, starts}
+use Rattle.kit_oracle.proofs.Numbering.{Below, OwnSends, Counted, below_numbered, aimed_by_grant, granted_counted}
 
 -- its next number is above them
 next_start : (p : Parts) (i : ℕ) → (seat_at_start p i).state.next ≡ 1 + length (seat_at_start p i).state.sends
@@ -43,32 +33,12 @@ next_start p i =
 aimed_start : (p : Parts) (i : ℕ) → Aimed (seat_at_start p i).state
 aimed_start p i = aimed_by_step p i Start 0 0 (opening_state (federate_at p i)) (record { under = tt; aims = tt })
 
--- the federates above send no message of one below
-starts_other : (p : Parts) (k a n : ℕ) → k < a → filter (from k) (starts p a n) ≡ []
-starts_other p k a zero lt = refl
-starts_other p k a (suc n) lt =
-    filter-append (from k) (seat_at_start p a).state.sends (starts p (a + 1) n)
-    ∙ ap (λ xs. xs ++ filter (from k) (starts p (a + 1) n)) (filter_other a k 1 (seat_at_start p a).state.sends (λ e. omega arith) (own_numbered p a))
-    ∙ starts_other p k (a + 1) n (omega arith)
-
--- of one among them they send its own
-starts_own : (p : Parts) (k a n : ℕ) → a ≤ k → k < a + n → filter (from k) (starts p a n) ≡ (seat_at_start p k).state.sends
-starts_own p k a zero le lt = absurd (omega arith)
-starts_own p k a (suc n) le lt =
-    let here = (seat_at_start p a).state.sends in
-    let rest = starts p (a + 1) n in
-    filter-append (from k) here rest ∙ elim (cases_eq k a) [
-      | inl e ↦ (let Q : ℕ → Type 0 = λ k. filter (from k) here ++ filter (from k) rest ≡ (seat_at_start p k).state.sends in
-          subst Q (sym e) (ap (λ xs. xs ++ filter (from a) rest) (filter_own a 1 here (own_numbered p a)) ∙ ap (λ xs. here ++ xs) (starts_other p a (a + 1) n (omega arith)) ∙ append-nil here))
-      | inr ne ↦ (ap (λ xs. xs ++ filter (from k) rest) (filter_other a k 1 here ne (own_numbered p a)) ∙ starts_own p k (a + 1) n (omega (arith, ne)) (omega arith))
-    ]
-
 -- their numbers are below the next of their senders
 starts_below : (p : Parts) (a n : ℕ) → a + n ≤ length p.federates → AllByRecursion (Below (world_at_start p)) (starts p a n)
 starts_below p a zero le = tt
 starts_below p a (suc n) le =
     let own = (seat_at_start p a).state.sends in
-    let here : seat_at (world_at_start p) a ≡ seat_at_start p a = get_or-map-range_with_len (seat_at_start p) 0 (length p.federates) a a nobody_seated (omega arith) (omega arith) in
+    let here : seat_at (world_at_start p) a ≡ seat_at_start p a = seat_started p a (omega arith) in
     let N : Seat → Type 0 = λ s. 1 + length own ≤ s.state.next in
     all-append (Below (world_at_start p)) own (starts p (a + 1) n) (below_numbered (world_at_start p) a 1 own (own_numbered p a) (subst N (sym here) (omega (arith, next_start p a)))) (starts_below p (a + 1) n (omega arith))
 
@@ -80,13 +50,13 @@ started_counted p =
       below = starts_below p 0 n (omega arith);
       each = λ k inside.
           let lt : k < n = omega (arith, length-map-range_with_len (seat_at_start p) 0 n) in
-          let here : seat_at (world_at_start p) k ≡ seat_at_start p k = get_or-map-range_with_len (seat_at_start p) 0 n k k nobody_seated lt (omega arith) in
+          let here : seat_at (world_at_start p) k ≡ seat_at_start p k = seat_started p k lt in
           let T : Seat → Type 0 = λ s. AreNumbered k 1 s.state.sends in
           let U : Seat → Type 0 = λ s. s.state.next ≡ 1 + length s.state.sends in
           let V : Seat → Type 0 = λ s. Aimed s.state in
           let W : Seat → Type 0 = λ s. AllByRecursion (Below (world_at_start p)) s.got in
           record {
-            own = starts_own p k 0 n (omega arith) (omega arith) ∙ ap (λ (s : Seat). s.state.sends) (sym here);
+            own = own_at_start p k;
             numbered = subst T (sym here) (own_numbered p k);
             next = subst U (sym here) (next_start p k);
             aimed = subst V (sym here) (aimed_start p k);

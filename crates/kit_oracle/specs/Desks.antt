@@ -6,20 +6,15 @@ use Rattle.kit_rules.specs.declared.table.Request.{Request}
 use Rattle.kit_rules.specs.declared.table.Request.TheVariants as request
 use Rattle.kit_rules.specs.declared.table.Wish.TheVariants as wish
 use Rattle.kit_rules.specs.Parts.{Parts}
-use Rattle.kit_rules.specs.Delivery.{is_transported, receivers_of, pending_messages}
+use Rattle.kit_rules.specs.Delivery.{is_transported, receivers_of, pending_messages, request_due}
 use Rattle.kit_rules.specs.Simulation.{Seat, World, request_at, after_block}
 use Rattle.kit_oracle.specs.declared.desk.Desk.{Desk}
-use Rattle.kit_oracle.specs.Pending.{front_until, rest_after, earliest_time, queue_after_message}
-
--- when a request is due, with these messages in order
-abbrev pub due_in : Request → List Message → ℕ
-due_in (request.Tar t) q = t
-due_in (request.Ner t) q = earliest_time t q
+use Rattle.kit_oracle.specs.Pending.{first_time, front_until, rest_after, queue_after_message}
 
 -- due time and number of each federate below the end
 abbrev pub waiting_at : ℕ → ℕ → List Desk → List (ℕ × ℕ)
 waiting_at end i [] = []
-waiting_at end i (d ∷ ds) = if nat_lt d.now end then (due_in d.request d.queue, i) ∷ waiting_at end (i + 1) ds else waiting_at end (i + 1) ds
+waiting_at end i (d ∷ ds) = if nat_lt d.now end then (request_due d.request (first_time d.queue), i) ∷ waiting_at end (i + 1) ds else waiting_at end (i + 1) ds
 
 -- federate i's desk after a grant of d, before its messages are posted
 abbrev pub desk_after_turn : Parts → ℕ → ℕ → Desk → Desk

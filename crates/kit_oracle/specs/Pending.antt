@@ -1,5 +1,5 @@
 -- A federate's undelivered messages, in the order of their keys.
-use Rattle.std.specs.Prelude.{◌≡◌, ℕ, nat_le, min, ◌==◌, Bool, not, ◌&&◌, if◌then◌else◌, List, [], ◌∷◌, filter}
+use Rattle.std.specs.Prelude.{◌≡◌, ℕ, nat_le, ◌==◌, Bool, not, ◌&&◌, if◌then◌else◌, List, [], ◌∷◌, filter, Option, Some, None}
 use Rattle.std.specs.List.{AllByRecursion}
 use Rattle.std.specs.List.Sorted.{IsStrictlySortedBy}
 use Rattle.std.specs.Map.{keys_of}
@@ -32,10 +32,10 @@ abbrev pub rest_after : ℕ → List Message → List Message
 rest_after d [] = []
 rest_after d (m ∷ ms) = if nat_le m.time d then rest_after d ms else m ∷ ms
 
--- the lesser of a time and that of the first message
-abbrev pub earliest_time : ℕ → List Message → ℕ
-earliest_time t [] = t
-earliest_time t (m ∷ ms) = min t m.time
+-- the time of the first message, if any is there
+abbrev pub first_time : List Message → Option ℕ
+first_time [] = None
+first_time (m ∷ ms) = Some m.time
 
 -- whether a message has this key
 abbrev pub has_key : ℕ → ℕ → ℕ → Message → Bool

@@ -1,6 +1,6 @@
 ghost use Rattle.std.specs.Prelude.{◌≡◌, ◌≤◌, length, None};
 ghost use Rattle.kit_rules.specs.Simulation.{least_pair, sooner_pair};
-ghost use Rattle.kit_oracle.specs.Desks.{due_in, waiting_at};
+ghost use Rattle.kit_oracle.specs.Desks.{waiting_at};
 
 use crate::pending::PendingMessages;
 use kit_rules::{FedState, Request};
@@ -13,16 +13,6 @@ pub(crate) struct Desk {
     pub(crate) request: Request,
     pub(crate) state: FedState,
     pub(crate) queue: PendingMessages,
-}
-
-/// When a request is due.
-fn due_of(request: Request, queue: &PendingMessages) -> u64
-    ensures { result ≡ due_in request queue.now }
-{
-    match request {
-        Request::Tar(time) => time,
-        Request::Ner(time) => queue.earliest_time(time),
-    }
 }
 
 fn sooner_of(best: Option<(u64, u8)>, pair: (u64, u8)) -> (u64, u8)
@@ -48,7 +38,7 @@ pub(crate) fn next_of(end: u64, desks: &[Desk]) -> Option<(u64, u8)>
     let mut best = None;
     for (i, desk) in desks.iter().enumerate() {
         if desk.now < end {
-            let time = due_of(desk.request, &desk.queue);
+            let time = desk.request.due(desk.queue.first_time());
             best = Some(sooner_of(best, (time, i as u8)));
         }
     }

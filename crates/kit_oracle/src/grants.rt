@@ -3,7 +3,7 @@
 ghost use Rattle.std.specs.Prelude.{◌≡◌, ◌<◌, ◌≤◌, ◌+◌, [], ◌∷◌, ◌++◌};
 ghost use Rattle.std.specs.Prelude.{length, map, take, drop, OnOk, Err};
 ghost use Rattle.kit_base.specs.declared.history.Line.TheVariants as line;
-ghost use Rattle.kit_rules.specs.Simulation.{request_at, after_deliveries, after_block};
+ghost use Rattle.kit_rules.specs.Simulation.{after_deliveries, after_block};
 ghost use Rattle.kit_oracle.specs.Pending.{front_until, rest_after};
 ghost use Rattle.kit_oracle.specs.Desks.{desk_after_turn, desk_after_turn_at};
 ghost use Rattle.kit_oracle.specs.Desks.{desk_at, desks_after_grant};
@@ -18,18 +18,7 @@ use crate::observer::Observer;
 use crate::pending::PendingMessages;
 use crate::posting::post_all;
 use kit_base::Message;
-use kit_rules::{ApplyEnd, FedState, Federation, Request, Trigger, Wish, apply};
-
-/// The request that a wish makes at a time.
-pub(crate) fn request_of(wish: Wish, now: u64, end: u64) -> Request
-    requires { now ≤ 100000 }
-    ensures { result ≡ request_at wish now end }
-{
-    match wish {
-        Wish::Tar(step) => Request::Tar((now + step as u64).min(end)),
-        Wish::Ner(step) => Request::Ner((now + step as u64).min(end)),
-    }
-}
+use kit_rules::{ApplyEnd, FedState, Federation, Trigger, apply};
 
 fn deliver<O: Observer>(
     federation: &Federation,
@@ -138,7 +127,7 @@ fn turn<O: Observer>(
     )?;
     desk.now = d;
     if d < end {
-        desk.request = request_of(desk.state.wish(), d, end);
+        desk.request = desk.state.wish().request(d, end);
     }
     Ok(())
 }

@@ -10,7 +10,6 @@ ghost use Rattle.kit_oracle.specs.Ends.{IfSpent};
 use crate::OracleEnd;
 use crate::desk::Desk;
 use crate::end::end_of;
-use crate::grants::request_of;
 use crate::pending::PendingMessages;
 use crate::posting::post_all;
 use kit_base::Message;
@@ -36,7 +35,7 @@ fn open(
     let end = federation.end();
     let mut state = FedState::new(alloc, federation, i);
     apply(federation, i, &mut state, Trigger::Start, 0, 0, made)?;
-    let request = request_of(state.wish(), 0, end);
+    let request = state.wish().request(0, end);
     Ok(Desk {
         now: 0,
         request,

@@ -1,7 +1,7 @@
 //! A federate's undelivered messages, in the order of their keys.
 
 ghost use Rattle.std.specs.Prelude.{◌≡◌, ◌≤◌, [], ◌∷◌, IfSome, IfNone, OnOk, OnErr};
-ghost use Rattle.kit_oracle.specs.Pending.{queue_with, front_until, earliest_time, without_key};
+ghost use Rattle.kit_oracle.specs.Pending.{queue_with, front_until, first_time, without_key};
 
 use kit_base::Message;
 use std::alloc::{AllocError, Global};
@@ -65,13 +65,13 @@ impl PendingMessages {
         let _ = self.map.remove(&key);
     }
 
-    /// The lesser of a time and that of the first message.
-    pub(crate) fn earliest_time(&self, time: u64) -> u64
-        ensures { result ≡ earliest_time time self.now }
+    /// The time of the first message, if any is there.
+    pub(crate) fn first_time(&self) -> Option<u64>
+        ensures { result ≡ first_time self.now }
     {
         match self.map.first_key_value() {
-            None => time,
-            Some((_, message)) => time.min(message.time),
+            None => None,
+            Some((_, message)) => Some(message.time),
         }
     }
 

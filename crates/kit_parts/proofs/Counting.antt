@@ -2,12 +2,12 @@
 use Rattle.std.proofs.Common.{◌≡◌, ℕ, inl, inr, ◌+◌, ◌<◌, ◌≤◌, Bool, true, false, cond, ◌&&◌, nat_eq, List, [], ◌∷◌, arith, refl, sym, ap, ◌∙◌, subst}
 use Rattle.std.specs.List.{count_by}
 use Rattle.std.proofs.lemmas.Bool.{and_parts, and_from, eqb-true, eq-eqb, cases_Bool, cases_lt}
-use Rattle.std.proofs.lemmas.List.Sums.{sum_by-cons}
 use Rattle.kit_base.specs.declared.message.Kind.{Kind}
 use Rattle.kit_base.specs.declared.message.Kind.TheVariants.{Event, Retraction}
 use Rattle.kit_base.specs.declared.message.Message.{Message}
 use Rattle.kit_base.specs.Words.{kind_bit}
-use Rattle.kit_parts.proofs.Among.{Among, Distinct}
+use Rattle.kit_base.proofs.Counting.{count_cons, count_has, one_false, one_true}
+use Rattle.kit_parts.proofs.Among.{Among, Distinct, among_contains}
 
 -- whether two messages are one, in all fields
 pub same : Message → Message → Bool
@@ -47,30 +47,13 @@ pub same_here : (m : Message) → same m m ≡ true
 unfolding same
 same_here m = and_from _ _ (and_from _ _ (and_from _ _ (and_from _ _ (and_from _ _ (eq-eqb m.time m.time refl) (eq-eqb m.sender m.sender refl)) (eq-eqb m.number m.number refl)) (eq-eqb (kind_bit m.kind) (kind_bit m.kind) refl)) (eq-eqb m.group m.group refl)) (eq-eqb m.value m.value refl)
 
--- counts
-abbrev pub one_if : Bool → ℕ
-one_if b = cond b 1 0
-
-pub one_true : (b : Bool) → b ≡ true → one_if b ≡ 1
-one_true b e = ap one_if e
-
-pub one_false : (b : Bool) → b ≡ false → one_if b ≡ 0
-one_false b e = ap one_if e
-
-pub count_by-cons : {X : Type 0} (test : X → Bool) (x : X) (xs : List X) → count_by test (x ∷ xs) ≡ one_if (test x) + count_by test xs
-count_by-cons test x xs = sum_by-cons (λ y. one_if (test y)) x xs
-
-pub count_has : {X : Type 0} (test : X → Bool) (x : X) (xs : List X) → Among x xs → test x ≡ true → 1 ≤ count_by test xs
-count_has test x [] a t = elim a [ ]
-count_has test x (y ∷ ys) (inl e) t = let c = one_true (test y) (ap test e ∙ t) in omega (arith, count_by-cons test y ys, c)
-count_has test x (y ∷ ys) (inr a) t = omega (arith, count_by-cons test y ys, count_has test x ys a t)
-
+-- one that counts is there
 pub has_count : {X : Type 0} (test : X → Bool) (xs : List X) → 1 ≤ count_by test xs → (x : X) × Among x xs × (test x ≡ true)
 has_count test [] h = absurd (omega arith)
 has_count test (y ∷ ys) h =
     elim (cases_Bool (test y)) [
       | inl t ↦ (y, inl refl, t)
-      | inr f ↦ (let c = one_false (test y) f in let r = has_count test ys (omega (arith, count_by-cons test y ys, c)) in (r.0, inr r.1, r.2))
+      | inr f ↦ (let c = one_false (test y) f in let r = has_count test ys (omega (arith, count_cons test y ys, c)) in (r.0, inr r.1, r.2))
     ]
 
 -- a message that counts is there
@@ -88,15 +71,15 @@ count_once m (x ∷ xs) d =
       | inl t ↦ (let c = one_true (same m x) t in
           elim (cases_lt 0 (count_by (same m) xs)) [
             | inl lt ↦ absurd (let r = has_count (same m) xs (let l : 0 < count_by (same m) xs = lt in omega arith) in d.0 (let e : r.0 ≡ x = same_is m r.0 r.2 ∙ sym (same_is m x t) in let P : Message → Type 0 = λ v. Among v xs in subst P e r.1))
-            | inr le ↦ (let l : count_by (same m) xs ≤ 0 = le in omega (arith, count_by-cons (same m) x xs, c))
+            | inr le ↦ (let l : count_by (same m) xs ≤ 0 = le in omega (arith, count_cons (same m) x xs, c))
           ])
-      | inr f ↦ (let c = one_false (same m x) f in omega (arith, count_by-cons (same m) x xs, c, count_once m xs d.1))
+      | inr f ↦ (let c = one_false (same m x) f in omega (arith, count_cons (same m) x xs, c, count_once m xs d.1))
     ]
 
 -- and messages that each count once differ
 pub once_count : (xs : List Message) → ((m : Message) → Among m xs → count_by (same m) xs ≤ 1) → Distinct xs
 once_count [] h = tt
 once_count (x ∷ xs) h = (
-  (λ a. let c = one_true (same x x) (same_here x) in absurd (omega (arith, h x (inl refl), count_by-cons (same x) x xs, c, count_has (same x) x xs a (same_here x)))),
-  once_count xs (λ m a. omega (arith, h m (inr a), count_by-cons (same m) x xs)),
+  (λ a. let c = one_true (same x x) (same_here x) in absurd (omega (arith, h x (inl refl), count_cons (same x) x xs, c, count_has (same x) xs x (among_contains x xs a) (same_here x)))),
+  once_count xs (λ m a. omega (arith, h m (inr a), count_cons (same m) x xs)),
 )

@@ -13,7 +13,8 @@ use Rattle.kit_laws.proofs.Needs.{count_by-append}
 use Rattle.kit_parts.proofs.Among.{Among, among_filter, filter_among, contains_among, among_contains, Distinct, distinct_filter, distinct_pairs}
 use Rattle.kit_parts.proofs.Seats.{sound_after, numbered_distinct}
 use Rattle.kit_parts.proofs.Whole.{apart_each}
-use Rattle.kit_parts.proofs.Counting.{same, same_here, count_has, has_same, count_once, once_count}
+use Rattle.kit_base.proofs.Counting.{count_has}
+use Rattle.kit_parts.proofs.Counting.{same, same_here, has_same, count_once, once_count}
 
 -- what a federate sent differs
 pub sent_distinct : (p : Parts) (j : ℕ) (o : Option (List Block)) → IsFederation p → j < length p.federates → Distinct (sends_after p j o)
@@ -30,7 +31,7 @@ bounds_are_cuts_law p f bound all transit waiting b =
           let a = contains_among m (all i).received c in
           let s = sender i lt m a in
           let k = (b.sound.split m.sender i s lt).counts (same m) in
-          let here = count_has (same m) m (filter (is_by m.sender) (all i).received) (among_filter (is_by m.sender) m (all i).received a (eq-eqb m.sender m.sender refl)) (same_here m) in
+          let here = count_has (same m) (filter (is_by m.sender) (all i).received) m (among_contains m _ (among_filter (is_by m.sender) m (all i).received a (eq-eqb m.sender m.sender refl))) (same_here m) in
           let r = has_same m (filter (is_transported_to p i) (sent_by p m.sender (all m.sender))) (omega (arith, k, here)) in
           let q = filter_among (is_transported_to p i) m (sent_by p m.sender (all m.sender)) r in
           (s, among_contains m (sent_by p m.sender (all m.sender)) q.0, q.1);
@@ -43,7 +44,7 @@ bounds_are_cuts_law p f bound all transit waiting b =
       came = λ i j li lj m c here below.
           let a = contains_among m (sent_by p j (all j)) c in
           let k = (b.sound.split j i lj li).counts (same m) in
-          let one = count_has (same m) m (filter (is_transported_to p i) (sent_by p j (all j))) (among_filter (is_transported_to p i) m (sent_by p j (all j)) a here) (same_here m) in
+          let one = count_has (same m) (filter (is_transported_to p i) (sent_by p j (all j))) m (among_contains m _ (among_filter (is_transported_to p i) m (sent_by p j (all j)) a here)) (same_here m) in
           let not_late : (xs : List Message) → All (λ (x : Message). bound ≤ x.time) xs → count_by (same m) xs ≤ 0 = λ xs late. elim (cases_lt 0 (count_by (same m) xs)) [
             | inl lt ↦ absurd (
                 let a = has_same m xs (let l : 0 < count_by (same m) xs = lt in omega arith) in

@@ -15,7 +15,7 @@ use Rattle.kit_parts.specs.PromiseLaws.{AddsFrom}
 use Rattle.kit_parts.specs.Flows.{Moment, Bounds, with_one, with_pair, progress, after_start, after_post, after_receipt, after_last_post, due_block, after_grant}
 use Rattle.kit_parts.proofs.Among.{Among, among_right, filter_among, among_contains}
 use Rattle.kit_parts.proofs.Seats.{from_append}
-use Rattle.kit_parts.proofs.Counting.{count_by-cons}
+use Rattle.kit_base.proofs.Counting.{count_cons}
 use Rattle.kit_parts.proofs.Cutting.{bounds_are_cuts_law}
 use Rattle.kit_parts.proofs.Safety.{all_is_heard_law}
 use Rattle.kit_parts.proofs.Agreement.{grants_agree_law}
@@ -55,7 +55,7 @@ module _ (p : Parts) (f : IsFederation p) (a : Moment) (good : Good p a) where
               | inl own ↦ (let at : with_pair a.transit i j (before ++ after) k l ≡ before ++ after = pair_at k l own e in
                   let it : a.transit k l ≡ before ++ m ∷ after = ap (λ (n : ℕ). a.transit n l) own ∙ ap (a.transit i) e ∙ is in
                   let yes_by : filter (is_by k) (m ∷ []) ≡ m ∷ [] = ap (λ b. cond b (m ∷ []) []) (eq-eqb m.sender k (by ∙ sym own)) in
-                  omega (arith, was, longer, ap (count_by test) yes_by, ap (count_by test) at, ap (count_by test) it, count_by-append test before (m ∷ after), count_by-cons test m after, count_by-cons test m [], count_by-append test before after))
+                  omega (arith, was, longer, ap (count_by test) yes_by, ap (count_by test) at, ap (count_by test) it, count_by-append test before (m ∷ after), count_cons test m after, count_cons test m [], count_by-append test before after))
               | inr other ↦ (let off : with_pair a.transit i j (before ++ after) k l ≡ a.transit k l = ap (λ (r : ℕ → List Message). r l) (off_one a.transit i (with_one (a.transit i) j (before ++ after)) k other) in
                   let none_by : filter (is_by k) (m ∷ []) ≡ [] = ap (λ b. cond b (m ∷ []) []) (ne_eqb m.sender k (λ s. other (sym s ∙ by))) in
                   let z : count_by test (filter (is_by k) (m ∷ [])) ≡ 0 = ap (count_by test) none_by in
@@ -130,7 +130,7 @@ module _ (p : Parts) (f : IsFederation p) (a : Moment) (good : Good p a) where
         split = λ k l lk ll. record {
           counts = λ test. pair (λ k l t w. k < length p.federates → l < length p.federates → count_by test (filter (is_transported_to p l) (sent_by p k (a.all k))) ≡ count_by test (filter (is_by k) (a.all l).received) + count_by test t + count_by test w)
               a.transit a.waiting i j (a.transit i j ++ m ∷ []) (before ++ after)
-              (λ u v. omega (arith, (good.base.sound.split i j u v).counts test, ap (count_by test) is, count_by-append test before (m ∷ after), count_by-cons test m after, count_by-append test (a.transit i j) (m ∷ []), count_by-cons test m [], count_by-append test before after))
+              (λ u v. omega (arith, (good.base.sound.split i j u v).counts test, ap (count_by test) is, count_by-append test before (m ∷ after), count_cons test m after, count_by-append test (a.transit i j) (m ∷ []), count_cons test m [], count_by-append test before after))
               (λ k l u v. (good.base.sound.split k l u v).counts test) k l lk ll;
         };
         waiting_late = λ k l. pair (λ k l t w. k < length p.federates → l < length p.federates → All (λ (x : Message). promise p k (a.all k) ≤ x.time) w) a.transit a.waiting i j (a.transit i j ++ m ∷ []) (before ++ after)

@@ -10,30 +10,21 @@ use Rattle.std.proofs.lemmas.Bool.{and_parts, eqb-true, false_from_ne_true, lt-l
 use Rattle.std.proofs.lemmas.List.Elements.{All-contains, Contains-get_or}
 use Rattle.kit_base.specs.declared.message.Message.{Message}
 use Rattle.kit_base.specs.Order.{is_before, put}
-use Rattle.kit_base.proofs.Lists.{each_weaker}
+use Rattle.kit_base.proofs.Filtering.{Up, filter_both, up_in_order}
+use Rattle.kit_base.proofs.Lists.{each_weaker, none_pass}
+use Rattle.kit_base.proofs.Orders.{not_before}
 use Rattle.kit_rules.specs.Delivery.{due_time, is_same, retracts, is_pending, pending_messages, is_transported, has_bit, receivers_of, is_due, due_messages}
 use Rattle.kit_parts.specs.Queues.{queue_of, QueueSplits, QueueIsOrdered, DueIsReceived, CopiesAreTransported, first_by, DueByFirst, NewIsPending}
 use Rattle.kit_parts.proofs.Among.{Among, among_any, each_of, among_contains, contains_among, filter_among, distinct_filter, pairs_distinct}
-use Rattle.kit_parts.proofs.Orders.{arranged, arranged_among, among_arranged, Rises, Before, rises_in_order}
+use Rattle.kit_parts.proofs.Orders.{arranged_among, among_arranged, Rises, Before, rises_in_order}
 use Rattle.kit_parts.proofs.Due.{is_held}
 use Rattle.kit_parts.proofs.Agreement.{due_parts}
 use Rattle.kit_parts.proofs.Whole.{one_key}
 use Rattle.kit_rules.specs.Simulation.{simulation}
 use Rattle.kit_parts.specs.Fronts.{is_transported_to}
-use Rattle.kit_parts.proofs.Filtering.{Up, up_put, filter_same, filter_both}
+use Rattle.kit_parts.proofs.Filtering.{filter_same}
 
 -- the queue by time
-no_earlier : (a b : Message) → is_before b a ≡ false → a.time ≤ b.time
-no_earlier a b h =
-    elim (cases_lt b.time a.time) [
-      | inl lt ↦ absurd (let e : is_before b a ≡ true = ap (λ t. is_lt (ordering_then (cond t Less (cond (nat_eq b.time a.time) Equal Greater)) (ordering_then (nat_cmp b.sender a.sender) (nat_cmp b.number a.number)))) (lt-ltb b.time a.time lt) in cc)
-      | inr ge ↦ ge
-    ]
-
-none_pass : {X : Type 0} (test : X → Bool) (xs : List X) → AllByRecursion (λ x. test x ≡ false) xs → filter test xs ≡ []
-none_pass test [] h = refl
-none_pass test (x ∷ xs) h = rw h.0 (none_pass test xs h.1)
-
 all_pass : {X : Type 0} (test : X → Bool) (xs : List X) → AllByRecursion (λ x. test x ≡ true) xs → filter test xs ≡ xs
 all_pass test [] h = refl
 all_pass test (x ∷ xs) h = rw h.0 (ap (λ ys. x ∷ ys) (all_pass test xs h.1))
@@ -43,7 +34,7 @@ by_time d [] u = refl
 by_time d (x ∷ xs) u =
     elim (cases_lt d x.time) [
       | inl late ↦ (let l : d < x.time = late in
-          let rest : (y : Message) → is_before y x ≡ false → d < y.time = λ y h. (let e = no_earlier x y h in omega arith) in
+          let rest : (y : Message) → is_before y x ≡ false → d < y.time = λ y h. (let e = not_before y x h in omega arith) in
           let none : filter (λ m. nat_le m.time d) (x ∷ xs) ≡ [] = none_pass (λ m. nat_le m.time d) (x ∷ xs) (lt-leb x.time d l, each_weaker (λ y. is_before y x ≡ false) (λ m. nat_le m.time d ≡ false) xs (λ y h. lt-leb y.time d (rest y h)) u.0) in
           let all : filter (λ m. nat_lt d m.time) (x ∷ xs) ≡ x ∷ xs = all_pass (λ m. nat_lt d m.time) (x ∷ xs) (lt-ltb d x.time l, each_weaker (λ y. is_before y x ≡ false) (λ m. nat_lt d m.time ≡ true) xs (λ y h. lt-ltb d y.time (rest y h)) u.0) in
           sym (ap (λ ys. ys ++ filter (λ m. nat_lt d m.time) (x ∷ xs)) none ∙ all))
@@ -53,12 +44,8 @@ by_time d (x ∷ xs) u =
           rw (here, out) (ap (λ ys. x ∷ ys) (by_time d xs u.1)))
     ]
 
-up_arranged : (acc xs : List Message) → Up acc → Up (arranged acc xs)
-up_arranged acc [] u = u
-up_arranged acc (x ∷ xs) u = up_arranged (put x acc) xs (up_put x acc u)
-
 pub queue_splits_law : QueueSplits
-queue_splits_law p i d got received = by_time d (queue_of p i got received) (up_arranged [] (pending_messages p i got received) tt)
+queue_splits_law p i d got received = by_time d (queue_of p i got received) (up_in_order (pending_messages p i got received))
 
 before_pairs : (xs : List Message) → Rises Before xs → AllPairs (λ a b. is_before a b ≡ true) xs
 before_pairs [] r i j d lt within = absurd (omega arith)
@@ -95,7 +82,7 @@ copies_are_transported_law p i sends =
 first_low : (t : ℕ) (xs : List Message) (m : Message) → Up xs → Among m xs → first_by t xs ≤ m.time
 first_low t [] m u a = elim a [ ]
 first_low t (x ∷ xs) m u (inl e) = let s : x.time ≡ m.time = ap (λ (y : Message). y.time) e in omega arith
-first_low t (x ∷ xs) m u (inr a) = let l = no_earlier x m (each_of (λ y. is_before y x ≡ false) m xs u.0 a) in omega arith
+first_low t (x ∷ xs) m u (inr a) = let l = not_before m x (each_of (λ y. is_before y x ≡ false) m xs u.0 a) in omega arith
 
 first_cases : (t : ℕ) (xs : List Message) → (first_by t xs ≡ t) ⊎ ((m : Message) × Among m xs × (m.time ≡ first_by t xs))
 first_cases t [] = inl refl
@@ -112,7 +99,7 @@ pub due_by_first_law : DueByFirst
 due_by_first_law p i t got received =
     let ms = pending_messages p i got received in
     let q = queue_of p i got received in
-    let up : Up q = up_arranged [] ms tt in
+    let up : Up q = up_in_order ms in
     let high : first_by t q ≤ due_time (Ner t) ms = elim (earliest_cases t ms) [
       | inl e ↦ omega (arith, e, first_capped t q)
       | inr g ↦ omega (arith, g.2, first_low t q g.0 up (among_arranged g.0 [] ms g.1))

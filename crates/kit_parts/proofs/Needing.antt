@@ -19,7 +19,7 @@ use Rattle.kit_parts.proofs.Among.{Among, among_left, among_right, among_cases, 
 use Rattle.kit_parts.proofs.Ways.{OnWay, started_way, granted_way, next_block, blocks_here}
 use Rattle.kit_parts.proofs.Sent.{Comes, comes, front_next, one_more}
 use Rattle.kit_parts.proofs.Whole.{front_split}
-use Rattle.kit_parts.proofs.Counting.{one_if, one_false, count_by-cons}
+use Rattle.kit_base.proofs.Counting.{count_cons, one_false, one_if}
 
 -- what is outstanding is among own sends
 count_own : (p : Parts) (i now : ℕ) (ms : List Message) → count_by (is_outstanding p i now) ms ≡ count_by (is_outstanding p i now) (filter (is_by i) ms)
@@ -28,10 +28,10 @@ count_own p i now (m ∷ ms) =
     let test = is_outstanding p i now in
     elim (cases_Bool (is_by i m)) [
       | inl own ↦ (let P : Bool → Type 0 = λ b. count_by test (m ∷ ms) ≡ count_by test (cond b (m ∷ filter (is_by i) ms) (filter (is_by i) ms)) in
-          subst P (sym own) (count_by-cons test m ms ∙ ap (λ (n : ℕ). one_if (test m) + n) (count_own p i now ms) ∙ sym (count_by-cons test m (filter (is_by i) ms))))
+          subst P (sym own) (count_cons test m ms ∙ ap (λ (n : ℕ). one_if (test m) + n) (count_own p i now ms) ∙ sym (count_cons test m (filter (is_by i) ms))))
       | inr other ↦ (let P : Bool → Type 0 = λ b. count_by test (m ∷ ms) ≡ count_by test (cond b (m ∷ filter (is_by i) ms) (filter (is_by i) ms)) in
           let no : test m ≡ false = ap (λ b. b && is_transported p m && nat_lt now m.time) other in
-          subst P (sym other) (omega (arith, count_by-cons test m ms, one_false (test m) no, count_own p i now ms)))
+          subst P (sym other) (omega (arith, count_cons test m ms, one_false (test m) no, count_own p i now ms)))
     ]
 
 outstanding_is : (p : Parts) (last : ℕ × ℕ) (w : World) (i : ℕ) → OnWay p last w → i < length p.federates → outstanding p i w ≡ count_by (is_outstanding p i (seat_after p i (blocks_of i w.blocks)).now) (seat_after p i (blocks_of i w.blocks)).state.sends

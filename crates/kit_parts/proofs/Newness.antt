@@ -11,7 +11,8 @@ use Rattle.kit_parts.specs.Cuts.{AreSound}
 use Rattle.kit_parts.specs.Laws.{IsNew, WhatComesIsNew, WhatWaitsIsNew}
 use Rattle.kit_parts.proofs.Among.{Among, among_filter, filter_among, contains_among, among_contains, distinct_filter}
 use Rattle.kit_parts.proofs.Seats.{sound_after, numbered_one, numbered_sender}
-use Rattle.kit_parts.proofs.Counting.{same, same_here, count_has, has_same, count_once}
+use Rattle.kit_base.proofs.Counting.{count_has}
+use Rattle.kit_parts.proofs.Counting.{same, same_here, has_same, count_once}
 use Rattle.kit_parts.proofs.Cutting.{sent_distinct}
 
 -- what federate j sent has it as its sender, and those of one number are one
@@ -40,14 +41,14 @@ new_from p f all transit waiting s j i lj li m counts =
           let a = contains_among x (all i).received c in
           let by : Among x (filter (is_by j) (all i).received) = among_filter (is_by j) x (all i).received a (eq-eqb x.sender j (from ∙ own)) in
           let kx = (s.split j i lj li).counts (same x) in
-          let r = filter_among (is_transported_to p i) x sends (has_same x (filter (is_transported_to p i) sends) (omega (arith, kx, count_has (same x) x (filter (is_by j) (all i).received) by (same_here x)))) in
+          let r = filter_among (is_transported_to p i) x sends (has_same x (filter (is_transported_to p i) sends) (omega (arith, kx, count_has (same x) (filter (is_by j) (all i).received) x (among_contains x _ by) (same_here x)))) in
           let one : x ≡ m = own_one p j (all j).done x m f lj r.0 q.0 number in
           let P : Message → Type 0 = λ v. Among v (filter (is_by j) (all i).received) in
-          absurd (omega (arith, k, once, count_has (same m) m (filter (is_by j) (all i).received) (subst P one by) (same_here m)));
+          absurd (omega (arith, k, once, count_has (same m) (filter (is_by j) (all i).received) m (among_contains m _ (subst P one by)) (same_here m)));
     }
 
 pub what_comes_is_new_law : WhatComesIsNew
-what_comes_is_new_law p f all transit waiting s j i lj li m c = new_from p f all transit waiting s j i lj li m (omega (arith, count_has (same m) m (transit j i) (contains_among m (transit j i) c) (same_here m)))
+what_comes_is_new_law p f all transit waiting s j i lj li m c = new_from p f all transit waiting s j i lj li m (omega (arith, count_has (same m) (transit j i) m c (same_here m)))
 
 pub what_waits_is_new_law : WhatWaitsIsNew
-what_waits_is_new_law p f all transit waiting s j i lj li m c = new_from p f all transit waiting s j i lj li m (omega (arith, count_has (same m) m (waiting j i) (contains_among m (waiting j i) c) (same_here m)))
+what_waits_is_new_law p f all transit waiting s j i lj li m c = new_from p f all transit waiting s j i lj li m (omega (arith, count_has (same m) (waiting j i) m c (same_here m)))

@@ -4,12 +4,10 @@ use Rattle.std.specs.List.{AllByRecursion}
 use Rattle.std.specs.Ordering.{nat_cmp, is_lt, ordering_then, ordering_reverse}
 use Rattle.std.specs.declared.cmp.Ordering.TheVariants.{Less, Equal, Greater}
 use Rattle.std.proofs.lemmas.Bool.{cases_order, lt-ltb, le-ltb, ne_eqb}
-use Rattle.std.proofs.lemmas.Cmp.{nat_cmp_total, on_total, then_total}
-use Rattle.std.specs.Cmp.{IsTotalOrder}
 use Rattle.kit_base.specs.declared.message.Message.{Message}
 use Rattle.kit_base.specs.Order.{key_cmp, is_before, put, in_order}
-use Rattle.kit_base.proofs.Lists.{each_weaker}
-use Rattle.kit_base.proofs.Orders.{all_put}
+use Rattle.kit_base.proofs.Orders.{all_put, before_all, key_total}
+use Rattle.kit_base.proofs.Filtering.{arranged}
 use Rattle.kit_parts.proofs.Among.{Among, Distinct, each_of, for_each}
 
 -- each comes before those behind it
@@ -41,10 +39,6 @@ one_ordered {X} lt never (x ∷ xs) (y ∷ ys) a b to back =
     ] in
     ap (λ v. v ∷ xs) (sym same) ∙ ap (λ vs. y ∷ vs) (one_ordered lt never xs ys a.1 b.1 on off)
 
--- keys are totally ordered
-pub key_total : IsTotalOrder key_cmp
-key_total = then_total (on_total (λ (m : Message). m.time) nat_cmp_total) (then_total (on_total (λ (m : Message). m.sender) nat_cmp_total) (on_total (λ (m : Message). m.number) nat_cmp_total))
-
 -- a message before another, by their keys
 abbrev pub Before : Message → Message → Type 0
 Before a b = key_cmp a b ≡ Less
@@ -73,9 +67,6 @@ equal_keys a b e =
     let t = then_equal (nat_cmp a.time b.time) (ordering_then (nat_cmp a.sender b.sender) (nat_cmp a.number b.number)) e in
     let s = then_equal (nat_cmp a.sender b.sender) (nat_cmp a.number b.number) t.1 in
     (nat_equal a.sender b.sender s.0, nat_equal a.number b.number s.1)
-
-before_all : (m x : Message) (xs : List Message) → Before m x → AllByRecursion (Before x) xs → AllByRecursion (Before m) xs
-before_all m x xs e h = each_weaker (Before x) (Before m) xs (λ y l. key_total.trans m x y e l) h
 
 -- a message of a key of its own, put in its place
 pub rises_put : (m : Message) (xs : List Message) → AllByRecursion (λ y. key_cmp m y ≡ Equal → ⊥) xs → Rises Before xs → Rises Before (put m xs)
@@ -108,10 +99,6 @@ among_put_there x m (y ∷ ys) a =
       | true ↦ inr a
       | false ↦ elim a [ inl e ↦ inl e | inr b ↦ inr (among_put_there x m ys b) ]
     ]
-
--- each put in its place, into a list that is there
-abbrev pub arranged : List Message → List Message → List Message
-arranged acc xs = fold (λ (sorted : List Message) (m : Message). put m sorted) acc xs
 
 pub arranged_among : (x : Message) (acc xs : List Message) → Among x (arranged acc xs) → Among x acc ⊎ Among x xs
 arranged_among x acc [] h = inl h

@@ -18,7 +18,8 @@ use Rattle.kit_parts.proofs.Among.{Among, among_contains, contains_among, filter
 use Rattle.kit_parts.proofs.Orders.{arranged_among, among_arranged}
 use Rattle.kit_parts.proofs.Due.{Held, held, is_held}
 use Rattle.kit_parts.proofs.Agreement.{due_parts, due_from_parts}
-use Rattle.kit_parts.proofs.Filtering.{filter_in_order, filter_same, filter_both, same_answer}
+use Rattle.kit_base.proofs.Filtering.{filter_both, filter_in_order}
+use Rattle.kit_parts.proofs.Filtering.{filter_same, same_answer}
 
 -- one more message
 event_test : (p : Parts) (i : ℕ) (got received : List Message) (m x : Message) → is_event m.kind ≡ true → is_pending p i got (received ++ m ∷ []) x ≡ is_pending p i got received x

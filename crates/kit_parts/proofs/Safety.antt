@@ -20,7 +20,8 @@ use Rattle.kit_parts.specs.Laws.{NobodySendsBelow, AllIsHeard}
 use Rattle.kit_parts.proofs.Among.{Among, contains_among, among_contains, each_of}
 use Rattle.kit_parts.proofs.Gains.{gain_by_step}
 use Rattle.kit_parts.proofs.Seats.{after_more}
-use Rattle.kit_parts.proofs.Ways.{OnWay, started_way, granted_way, seat_started, next_block, blocks_here, blocks_there}
+use Rattle.kit_laws.proofs.OwnSends.{seat_started}
+use Rattle.kit_parts.proofs.Ways.{OnWay, started_way, granted_way, next_block, blocks_here, blocks_there}
 use Rattle.kit_parts.proofs.Sent.{granted_within, made_or_old, front_of}
 use Rattle.kit_parts.proofs.Whole.{sender_has, sender_within, send_is, front_sent, whole_way}
 use Rattle.kit_parts.proofs.Due.{pending_among, among_pending, due_no_later, pending_there}

@@ -21,7 +21,8 @@ use Rattle.kit_laws.proofs.Pendings.{From}
 use Rattle.kit_parts.proofs.Among.{each_of}
 use Rattle.kit_parts.proofs.Gains.{gain_by_step}
 use Rattle.kit_parts.proofs.Sent.{made_or_old}
-use Rattle.kit_parts.proofs.Ways.{seat_started, OnWay, started_way, granted_way}
+use Rattle.kit_laws.proofs.OwnSends.{seat_started}
+use Rattle.kit_parts.proofs.Ways.{OnWay, started_way, granted_way}
 use Rattle.kit_parts.proofs.Orders.{equal_keys}
 
 -- worlds after any number of grants are on the way

@@ -1,6 +1,9 @@
 //! Laws of a federate's own blocks: their times, their end, what is outstanding after them.
 
-ghost use Rattle.kit_parts.specs.OwnLaws.{PartsRise, PartsEnd, EndsAreWhole, NothingComesLate, NeedCovers, NeedHolds, SpentAgrees, SpentAmong, SendsAreNumbered, SendsGrow, GotIsDelivered, WholePartsAreSeats, FrontsAreReached, FrontsSend};
+ghost use Rattle.kit_parts.specs.OwnLaws.{PartsRise, PartsEnd, EndsAreWhole, NothingComesLate};
+ghost use Rattle.kit_parts.specs.OwnLaws.{NeedCovers, NeedHolds, SpentAgrees, SpentAmong};
+ghost use Rattle.kit_parts.specs.OwnLaws.{SendsAreNumbered, SendsGrow, GotIsDelivered};
+ghost use Rattle.kit_parts.specs.OwnLaws.{WholePartsAreSeats, FrontsAreReached, FrontsSend};
 
 /// The grants of a federate rise strictly, from 1 to the end time.
 pub fn parts_rise()

@@ -1,6 +1,8 @@
 //! Laws of moments at which a number is a bound on what is still to come.
 
-ghost use Rattle.kit_parts.specs.Laws.{NobodySendsBelow, AllIsHeard, GrantsAgree, BoundsAreCuts, ListsAreSplit, BoundsCarry, WhatComesIsNew, WhatWaitsIsNew, NobodySendsToItself};
+ghost use Rattle.kit_parts.specs.Laws.{NobodySendsBelow, AllIsHeard, GrantsAgree, BoundsAreCuts};
+ghost use Rattle.kit_parts.specs.Laws.{ListsAreSplit, BoundsCarry, WhatComesIsNew, WhatWaitsIsNew};
+ghost use Rattle.kit_parts.specs.Laws.{NobodySendsToItself};
 
 /// At a cut, all messages of the simulation that are timed below the bound were sent: nobody will
 /// send below it.

@@ -1,6 +1,7 @@
 //! Laws of whole runs of all federates, in any order of their steps.
 
-ghost use Rattle.kit_parts.specs.Flows.{FlowsKeepBounds, FlowsAgree, FlowsAreLawful, EndsAgree, EndsMakeTheText};
+ghost use Rattle.kit_parts.specs.Flows.{FlowsKeepBounds, FlowsAgree, FlowsAreLawful, EndsAgree};
+ghost use Rattle.kit_parts.specs.Flows.{EndsMakeTheText};
 
 /// In a run of all federates, in any order of their steps, a bound stays a bound.
 pub fn flows_keep_bounds()

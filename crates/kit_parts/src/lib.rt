@@ -1,5 +1,5 @@
-//! Laws of the sequential simulation alone: a federate by itself. Each is the contract of a function
-//! that does nothing.
+//! Laws of the sequential simulation alone: a federate by itself. Each is the contract of a
+//! function that does nothing.
 #![tactic(auto)]
 
 mod blocks;

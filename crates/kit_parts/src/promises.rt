@@ -1,6 +1,9 @@
 //! Laws of promises: what is sent is late enough, and no step of a federate breaks its promise.
 
-ghost use Rattle.kit_parts.specs.PromiseLaws.{StepsSendLate, StartsSendLate, GrantsSendLate, WaitingKeepsPromise, StartKeepsPromise, GrantKeepsPromise, PostKeepsPromise, DueIsAhead, ReceiptKeepsPromise, PromisesAreCapped, LeastIsBelow};
+ghost use Rattle.kit_parts.specs.PromiseLaws.{StepsSendLate, StartsSendLate, GrantsSendLate};
+ghost use Rattle.kit_parts.specs.PromiseLaws.{WaitingKeepsPromise, StartKeepsPromise};
+ghost use Rattle.kit_parts.specs.PromiseLaws.{GrantKeepsPromise, PostKeepsPromise, DueIsAhead};
+ghost use Rattle.kit_parts.specs.PromiseLaws.{ReceiptKeepsPromise, PromisesAreCapped, LeastIsBelow};
 
 /// A rule step adds to the sends only what is timed now and the effective lookahead or later,
 /// Retractions too.

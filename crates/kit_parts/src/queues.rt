@@ -1,6 +1,11 @@
 //! Laws of the messages that a federate received, and of those that wait for its grants.
 
-ghost use Rattle.kit_parts.specs.Queues.{QueueTakesEvent, QueueTakesRetraction, QueueDelivers, QueueKeeps, QueueIsReceived, MessagesAreOne, RetractionsAreLike, RetractionsName, QueueSplits, QueueIsOrdered, DueIsReceived, CopiesAreTransported, SettledIsSafe, QueueIsAhead, DueByFirst, NewIsPending, RetractedOnce, DueByQueue, GrantsAgreeByQueue};
+ghost use Rattle.kit_parts.specs.Queues.{QueueTakesEvent, QueueTakesRetraction, QueueDelivers};
+ghost use Rattle.kit_parts.specs.Queues.{QueueKeeps, QueueIsReceived, MessagesAreOne};
+ghost use Rattle.kit_parts.specs.Queues.{RetractionsAreLike, RetractionsName, QueueSplits};
+ghost use Rattle.kit_parts.specs.Queues.{QueueIsOrdered, DueIsReceived, CopiesAreTransported};
+ghost use Rattle.kit_parts.specs.Queues.{SettledIsSafe, QueueIsAhead, DueByFirst, NewIsPending};
+ghost use Rattle.kit_parts.specs.Queues.{RetractedOnce, DueByQueue, GrantsAgreeByQueue};
 
 /// An Event that is received is put in its place in the queue, where it is pending.
 pub fn queue_takes_event()

@@ -2,25 +2,21 @@
 use Rattle.std.proofs.Common.{◌≡◌, Bool, true, false, cond, ◌&&◌, ◌==◌, List, [], ◌∷◌, filter, refl, sym, ap, ◌∙◌, true≢false}
 use Rattle.std.specs.Ordering.{nat_cmp, is_lt, is_eq, ordering_then, ordering_reverse}
 use Rattle.std.specs.declared.cmp.Ordering.TheVariants.{Less, Equal, Greater}
-use Rattle.std.specs.Cmp.{IsTotalOrder, both_tied, tied_then, unsigned_ties}
+use Rattle.std.specs.Cmp.{both_tied, tied_then, unsigned_ties}
 use Rattle.std.specs.List.{AllByRecursion, IsDistinct}
 use Rattle.std.specs.List.Sorted.{IsStrictlySortedBy}
 use Rattle.std.proofs.lemmas.Bool.{and_parts}
-use Rattle.std.proofs.lemmas.Cmp.{nat_cmp_total, on_total, then_total, nat_eq_equiv}
+use Rattle.std.proofs.lemmas.Cmp.{nat_eq_equiv}
 use Rattle.kit_base.specs.Order.{key_cmp, is_before, put}
 use Rattle.kit_base.specs.declared.message.Message.{Message}
-use Rattle.kit_base.proofs.Lists.{all_filter, each_weaker}
-use Rattle.kit_base.proofs.Orders.{all_put}
+use Rattle.kit_base.proofs.Lists.{all_filter}
+use Rattle.kit_base.proofs.Orders.{all_put, before_all, key_total}
 use Rattle.kit_queue.specs.Entries.{shares_number}
-
--- keys are totally ordered
-pub key_cmp_total : IsTotalOrder key_cmp
-key_cmp_total = then_total (on_total (λ (m : Message). m.time) nat_cmp_total) (then_total (on_total (λ (m : Message). m.sender) nat_cmp_total) (on_total (λ (m : Message). m.number) nat_cmp_total))
 
 -- messages of equal keys have the same sender and number
 equal_shares : (a b : Message) → key_cmp a b ≡ Equal → shares_number a b ≡ true
 equal_shares a b e =
-    let back : key_cmp b a ≡ Equal = key_cmp_total.antisymm b a ∙ ap ordering_reverse e in
+    let back : key_cmp b a ≡ Equal = key_total.antisymm b a ∙ ap ordering_reverse e in
     let tied : is_eq (key_cmp b a) ≡ true = ap is_eq back in
     let numbers = ordering_then (nat_cmp b.sender a.sender) (nat_cmp b.number a.number) in
     both_tied (b.sender == a.sender) (b.number == a.number) (nat_cmp b.sender a.sender) (nat_cmp b.number a.number) (unsigned_ties b.sender a.sender) (unsigned_ties b.number a.number)
@@ -30,10 +26,6 @@ equal_shares a b e =
 shares_flip : (a b : Message) → shares_number a b ≡ shares_number b a
 shares_flip a b = ap (λ t. t && (b.number == a.number)) (nat_eq_equiv.symm b.sender a.sender) ∙ ap (λ t. (a.sender == b.sender) && t) (nat_eq_equiv.symm b.number a.number)
 
--- a message before another is before all that come after that one
-before_all : (m x : Message) (xs : List Message) → key_cmp m x ≡ Less → AllByRecursion (λ y. key_cmp x y ≡ Less) xs → AllByRecursion (λ y. key_cmp m y ≡ Less) xs
-before_all m x xs e h = each_weaker (λ y. key_cmp x y ≡ Less) (λ y. key_cmp m y ≡ Less) xs (λ y l. key_cmp_total.trans m x y e l) h
-
 -- a message of a new number, put in its place, leaves the keys in strict order
 pub sorted_put : (m : Message) (xs : List Message) → AllByRecursion (λ y. shares_number m y ≡ false) xs → IsStrictlySortedBy key_cmp xs → IsStrictlySortedBy key_cmp (put m xs)
 unfolding IsStrictlySortedBy
@@ -42,7 +34,7 @@ sorted_put m (x ∷ xs) a s =
     elim (key_cmp m x) as (λ o. key_cmp m x ≡ o → IsStrictlySortedBy key_cmp (cond (is_lt o) (m ∷ x ∷ xs) (x ∷ put m xs))) [
       | Less ↦ λ e. ((e, before_all m x xs e s.0), s)
       | Equal ↦ λ e. absurd (true≢false (sym (equal_shares m x e) ∙ a.0))
-      | Greater ↦ λ e. (all_put (λ y. key_cmp x y ≡ Less) m xs (key_cmp_total.antisymm x m ∙ ap ordering_reverse e) s.0, sorted_put m xs a.1 s.1)
+      | Greater ↦ λ e. (all_put (λ y. key_cmp x y ≡ Less) m xs (key_total.antisymm x m ∙ ap ordering_reverse e) s.0, sorted_put m xs a.1 s.1)
     ] refl
 
 -- a message of a new number, put anywhere, leaves the numbers apart

@@ -10,9 +10,9 @@ use Rattle.std.proofs.lemmas.List.Quantifiers.{position-Some}
 use Rattle.std.proofs.lemmas.Option.{slice_get_past}
 use Rattle.kit_base.specs.Order.{key_cmp, is_before}
 use Rattle.kit_base.specs.declared.message.Message.{Message}
+use Rattle.kit_base.proofs.Orders.{key_total}
 use Rattle.kit_queue.specs.declared.entry.Entry.{Entry}
 use Rattle.kit_queue.specs.Entries.{messages_of, is_numbered, shares_number, IsInOrder, AreNumberedApart, put_entry, entry_of, entries_without, is_settleable, without_buffer, with_first_settled, buffer_of, first_buffer}
-use Rattle.kit_queue.proofs.Keys.{key_cmp_total}
 
 -- the test is false
 unset : (b : Bool) → not b ≡ true → b ≡ false
@@ -34,7 +34,7 @@ at_place P (x ∷ xs) (suc k) d h l = at_place P xs k d h.1 (omega arith)
 later : (m : Message) (x : Entry) (xs : List Entry) (k : ℕ) (d : Entry) → AllByRecursion (λ y. key_cmp x.message y ≡ Less) (messages_of xs) → k < length xs → is_before m x.message ≡ true → is_before m (get_or xs k d).message ≡ true
 later m x xs k d h l b =
     let less : key_cmp m x.message ≡ Less = lt_less (key_cmp m x.message) b in
-    ap is_lt (key_cmp_total.trans m x.message (get_or xs k d).message less (at_place (λ y. key_cmp x.message y ≡ Less) xs k d h l))
+    ap is_lt (key_total.trans m x.message (get_or xs k d).message less (at_place (λ y. key_cmp x.message y ≡ Less) xs k d h l))
   where
     lt_less : (o : _) → is_lt o ≡ true → o ≡ Less
     lt_less o h = grind arith

@@ -6,10 +6,13 @@ use std::alloc::{AllocError, Global};
 /// Contracts see a queue as the list `entries` and the number `spare`. Only `reserve` and `insert`
 /// take memory.
 pub trait Order: Drop {
-    ghost use Rattle.std.specs.Prelude.{◌≡◌, ◌<◌, ◌≤◌, ◌+◌, ℕ, List, [], ◌++◌, ◌↔◌, IsOk, IsNone, IfNone, OnOk, OnErr};
+    ghost use Rattle.std.specs.Prelude.{◌≡◌, ◌<◌, ◌≤◌, ◌+◌, ℕ, List, [], ◌++◌, ◌↔◌, IsOk, IsNone};
+    ghost use Rattle.std.specs.Prelude.{IfNone, OnOk, OnErr};
     ghost use Rattle.std.specs.Option.{option_to_list};
     ghost use Rattle.kit_queue.specs.declared.entry.Entry.{Entry};
-    ghost use Rattle.kit_queue.specs.Entries.{IsInOrder, AreNumberedApart, put_entry, entry_of, entries_without, with_first_settled, first_buffer, first_time, first_due};
+    ghost use Rattle.kit_queue.specs.Entries.{IsInOrder, AreNumberedApart, put_entry, entry_of};
+    ghost use Rattle.kit_queue.specs.Entries.{entries_without, with_first_settled, first_buffer};
+    ghost use Rattle.kit_queue.specs.Entries.{first_time, first_due};
 
     // The entries in the order of their keys.
     ghost entries: { Self → List Entry };

@@ -9,5 +9,6 @@ pub mod Steps
 pub mod Fitness
 pub mod Opening
 pub mod Masks
+pub mod ReceiverMasks
 pub mod TakenBack
 pub mod Timely

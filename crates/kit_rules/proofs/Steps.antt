@@ -1,11 +1,23 @@
 -- What steps leave of a state.
-use Rattle.std.proofs.Common.{◌≡◌, ℕ, suc, true, false, cond, ◌&&◌, ◌<◌, ◌≤◌, List, [], ◌∷◌, length, drop, get_or, arith, drop-cons}
+use Rattle.std.proofs.Common.{◌≡◌, ℕ, suc, true, false, cond, ◌&&◌, ◌<◌, ◌≤◌, List, [], ◌∷◌, length, take, drop, get_or, arith, drop-cons, refl, ap, ◌∙◌}
 use Rattle.kit_rules.specs.declared.table.Action.{Action}
 use Rattle.kit_rules.specs.declared.table.Trigger.{Trigger}
 use Rattle.kit_rules.specs.declared.table.Rule.{Rule}
 use Rattle.kit_rules.specs.declared.scene.Scene.{Scene}
 use Rattle.kit_rules.specs.declared.scene.State.{State}
 use Rattle.kit_rules.specs.Step.{after_action, after_actions, after_rule, after_rules, same_trigger, conditions_hold}
+
+-- what a first step keeps in front, a second that keeps all of its result keeps there too
+pub kept_on : {X : Type 0} (a b c : List X) → take (length a) b ≡ a → take (length b) c ≡ b → take (length a) c ≡ a
+kept_on [] b c h k = refl
+kept_on (x ∷ xs) [] c h k = absurd (cc)
+kept_on (x ∷ xs) (y ∷ ys) [] h k = absurd (cc)
+kept_on {X} (x ∷ xs) (y ∷ ys) (z ∷ zs) h k =
+    let first : y ≡ x = cc in
+    let second : z ≡ y = cc in
+    let front : take (length xs) ys ≡ xs = cc in
+    let all : take (length ys) zs ≡ ys = cc in
+    ap (λ (v : X). v ∷ take (length xs) zs) (second ∙ first) ∙ ap (λ (vs : List X). x ∷ vs) (kept_on xs ys zs front all)
 
 -- the next number does not fall
 pub next_grows : (scene : Scene) (s : State) (as' : List Action) → s.next ≤ (after_actions scene s as').next

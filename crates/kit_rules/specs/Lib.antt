@@ -3,6 +3,7 @@ pub mod Limits
 pub mod Names
 pub mod Federation
 pub mod Step
+pub mod Running
 pub mod Delivery
 pub mod Simulation
 pub mod Merging

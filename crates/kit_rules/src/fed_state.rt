@@ -2,6 +2,7 @@ ghost use Rattle.std.specs.Prelude.{◌≡◌, ℕ, true, false, ◌<◌, ◌≤
 ghost use Rattle.std.specs.List.{list_any};
 ghost use Rattle.kit_rules.specs.Limits.{most_time, most_vars};
 ghost use Rattle.kit_rules.specs.Parts.{federate_at};
+ghost use Rattle.kit_rules.specs.Running.{ComesTo};
 ghost use Rattle.kit_rules.specs.Step.{is_event, takes_back, after_action, after_rules, CanRun, opening_state, opening_vars};
 
 use crate::marks::target;
@@ -174,12 +175,12 @@ impl FedState {
     ) -> Result<(), ApplyEnd>
         requires time { scene.now.time ≤ most_time }
         requires rules { All (CanRun scene.now.lookahead) rules.now }
-        ensures state { OnOk result (self.new ≡ after_rules scene.now on self.old rules.now) }
-        ensures sends { OnOk result (sends.new.items ≡ sends.old.items ++ drop (length self.old.sends) self.new.sends) }
-        ensures unchanged { OnErr result ((self.new ≡ self.old) × (sends.new.items ≡ sends.old.items)) }
-        ensures kept { take (length self.old.sends) self.new.sends ≡ self.old.sends }
-        ensures spent { result ≡ Err ApplyEnd.SendsSpent → 16385 < (after_rules scene.now on self.old rules.now).next }
-        ensures room { OnOk result (self.new.next ≤ 16385) }
+        ensures comes { ComesTo (after_rules scene.now on self.old rules.now)
+            self.old self.new result }
+        ensures sends { OnOk result (sends.new.items ≡
+            sends.old.items ++ drop (length self.old.sends) self.new.sends) }
+        ensures unchanged { OnErr result
+            ((self.new ≡ self.old) × (sends.new.items ≡ sends.old.items)) }
     {
         let vars = self.state.vars;
         let wish = self.state.wish;
@@ -233,12 +234,10 @@ fn run_rules(
     requires rules { All (CanRun scene.now.lookahead) rules.now }
     requires room { state.old.next ≤ 16385 }
     requires kept { kept ≡ length state.old.sends }
-    ensures state { OnOk result (state.new ≡ after_rules scene.now on state.old rules.now) }
+    ensures comes { ComesTo (after_rules scene.now on state.old rules.now)
+        state.old state.new result }
     ensures sends { OnOk result (sends.new.items ≡ sends.old.items ++ drop kept state.new.sends) }
     ensures unchanged { OnErr result (sends.new.items ≡ sends.old.items) }
-    ensures kept { take kept state.new.sends ≡ state.old.sends }
-    ensures spent { result ≡ Err ApplyEnd.SendsSpent → 16385 < (after_rules scene.now on state.old rules.now).next }
-    ensures room { OnOk result (state.new.next ≤ 16385) }
 {
     apply_rules(scene, on, state, rules)?;
     sends.extend_from_slice(&state.sends()[kept..])?;

@@ -1,7 +1,9 @@
-ghost use Rattle.std.specs.Prelude.{◌≡◌, ◌<◌, ◌≤◌, ◌++◌, length, take, drop, OnOk, OnErr, All};
+ghost use Rattle.std.specs.Prelude.{◌≡◌, ◌<◌, ◌≤◌, ◌++◌, length, drop, OnOk, OnErr, All};
 ghost use Rattle.kit_rules.specs.Limits.{most_time, most_vars};
 ghost use Rattle.kit_rules.specs.Federation.{IsAction};
-ghost use Rattle.kit_rules.specs.Step.{after_actions, after_rule, after_rules, same_trigger, CanRun, state_after};
+ghost use Rattle.kit_rules.specs.Running.{ComesTo};
+ghost use Rattle.kit_rules.specs.Step.{after_actions, after_rule, after_rules};
+ghost use Rattle.kit_rules.specs.Step.{same_trigger, CanRun, state_after};
 
 use crate::act::{act, are_met};
 use crate::{Action, ApplyEnd, FedState, Federation, Rule, Scene, Trigger};
@@ -12,10 +14,7 @@ fn act_all(scene: &Scene, state: &mut FedState, actions: &[Action]) -> Result<()
     requires time { scene.now.time ≤ most_time }
     requires fits { All (IsAction 256 most_vars (Some scene.now.lookahead)) actions.now }
     requires room { state.old.next ≤ 16385 }
-    ensures ok { OnOk result (state.new ≡ after_actions scene.now state.old actions.now) }
-    ensures kept { take (length state.old.sends) state.new.sends ≡ state.old.sends }
-    ensures spent { result ≡ Err ApplyEnd.SendsSpent → 16385 < (after_actions scene.now state.old actions.now).next }
-    ensures room { OnOk result (state.new.next ≤ 16385) }
+    ensures { ComesTo (after_actions scene.now state.old actions.now) state.old state.new result }
 {
     for action in actions {
         act(scene, state, *action)?;
@@ -28,10 +27,7 @@ fn apply_rule(scene: &Scene, on: Trigger, state: &mut FedState, rule: &Rule) -> 
     requires time { scene.now.time ≤ most_time }
     requires rule { CanRun scene.now.lookahead rule.now }
     requires room { state.old.next ≤ 16385 }
-    ensures ok { OnOk result (state.new ≡ after_rule scene.now on state.old rule.now) }
-    ensures kept { take (length state.old.sends) state.new.sends ≡ state.old.sends }
-    ensures spent { result ≡ Err ApplyEnd.SendsSpent → 16385 < (after_rule scene.now on state.old rule.now).next }
-    ensures room { OnOk result (state.new.next ≤ 16385) }
+    ensures { ComesTo (after_rule scene.now on state.old rule.now) state.old state.new result }
 {
     if is_same_trigger(rule.on, on) && are_met(scene, &state.vars(), rule.conds.as_slice()) {
         act_all(scene, state, rule.actions.as_slice())
@@ -61,10 +57,7 @@ pub(crate) fn apply_rules(
     requires time { scene.now.time ≤ most_time }
     requires rules { All (CanRun scene.now.lookahead) rules.now }
     requires room { state.old.next ≤ 16385 }
-    ensures ok { OnOk result (state.new ≡ after_rules scene.now on state.old rules.now) }
-    ensures kept { take (length state.old.sends) state.new.sends ≡ state.old.sends }
-    ensures spent { result ≡ Err ApplyEnd.SendsSpent → 16385 < (after_rules scene.now on state.old rules.now).next }
-    ensures room { OnOk result (state.new.next ≤ 16385) }
+    ensures { ComesTo (after_rules scene.now on state.old rules.now) state.old state.new result }
 {
     for rule in rules {
         apply_rule(scene, on, state, rule)?;
@@ -79,6 +72,7 @@ pub(crate) fn apply_rules(
 /// hold its actions are done in order. `value` is that of the message that was delivered, or 0.
 ///
 /// A federate has numbers up to 16,384, and a send or Retraction beyond them refuses the whole step.
+/// Nothing else refuses one but want of memory.
 pub fn apply(
     federation: &Federation,
     federate: u8,
@@ -91,14 +85,12 @@ pub fn apply(
     requires federate { federate < length federation.now.federates }
     requires time { now ≤ federation.now.end }
 
-    ensures state { OnOk result (state.new ≡ state_after federation.now federate trigger now value state.old) }
-    ensures sends { OnOk result (sends.new.items ≡ sends.old.items ++ drop (length state.old.sends) state.new.sends) }
-    ensures unchanged { OnErr result ((state.new ≡ state.old) × (sends.new.items ≡ sends.old.items)) }
-    ensures kept { take (length state.old.sends) state.new.sends ≡ state.old.sends }
-
-    // Number 16,385 is what is refused, and nothing else is but for memory.
-    ensures spent { result ≡ Err ApplyEnd.SendsSpent → 16385 < (state_after federation.now federate trigger now value state.old).next }
-    ensures room { OnOk result (state.new.next ≤ 16385) }
+    ensures comes { ComesTo (state_after federation.now federate trigger now value state.old)
+        state.old state.new result }
+    ensures sends { OnOk result (sends.new.items ≡
+        sends.old.items ++ drop (length state.old.sends) state.new.sends) }
+    ensures unchanged { OnErr result
+        ((state.new ≡ state.old) × (sends.new.items ≡ sends.old.items)) }
 {
     let rules = federation.federate(federate);
     let scene = Scene {

@@ -19,7 +19,7 @@ returns-clause-runs g c =
       state = search rules;
       made = on_ok_weaker c.apply.result (λ e. e ∙ ap (λ xs. xs ++ drop (length c.deliver_all.new.state.sends) c.apply.new.state.sends) c.in_ok-deliver_all.ensures.runs.made
           ∙ sent_in_a_row _ c.deliver_all.new.state.sends c.apply.new.state.sends _
-          (deliveries_longer c.args.federation.now c.args.i c.args.d c.args.state.now c.deliver_all.new.state (front_until c.args.d c.args.queue.now) c.in_ok-deliver_all.ensures.runs.state) c.apply.ensures.kept)
+          (deliveries_longer c.args.federation.now c.args.i c.args.d c.args.state.now c.deliver_all.new.state (front_until c.args.d c.args.queue.now) c.in_ok-deliver_all.ensures.runs.state) c.apply.ensures.comes.kept)
           c.apply.ensures.sends;
       spent = search rules;
     }
