@@ -14,11 +14,15 @@ const CLOCK: u8 = 12;
 pub fn advance<G: Ground<Under = Couriers>>(seat: &mut G, to: u64) -> u64
     requires { slice_index (G.place seat.old).own.shown 12 ≤ to }
     ensures came { G.came seat.old seat.new }
-    ensures looked { HasLooked (G.place seat.old) (G.place seat.old).own.federates (G.place seat.new) }
-    ensures least { let o = (G.place seat.old).own in IsLeast (G.place seat.new).client.known o.federates o.number result }
+    ensures looked { HasLooked (G.place seat.old) (G.place seat.old).own.federates
+        (G.place seat.new) }
+    ensures least { let o = (G.place seat.old).own in
+        IsLeast (G.place seat.new).client.known o.federates o.number result }
     ensures shown { slice_index (G.place seat.new).own.shown 12 ≡ to }
-    ensures steps { (G.place seat.new).own.steps ≡ (G.place seat.old).own.steps + (G.place seat.old).own.federates }
-    ensures looks { (G.place seat.new).own.looks + 1 ≡ (G.place seat.old).own.looks + (G.place seat.old).own.federates }
+    ensures steps { (G.place seat.new).own.steps
+        ≡ (G.place seat.old).own.steps + (G.place seat.old).own.federates }
+    ensures looks { (G.place seat.new).own.looks + 1
+        ≡ (G.place seat.old).own.looks + (G.place seat.old).own.federates }
     ensures leaves { AdvanceLeaves (G.place seat.old) (G.place seat.new) }
 {
     let me = seat.me();

@@ -1,9 +1,11 @@
-ghost use Rattle.std.specs.Prelude.{◌≡◌, ◌≢◌, ℕ, ◌+◌, ◌<◌, ◌^◌, [], ◌∷◌, ◌++◌, if◌then◌else◌, IsTrue, MatchOption, None};
+ghost use Rattle.std.specs.Prelude.{◌≡◌, ◌≢◌, ℕ, ◌+◌, ◌<◌, ◌^◌, [], ◌∷◌, ◌++◌, if◌then◌else◌};
+ghost use Rattle.std.specs.Prelude.{IsTrue, MatchOption, None};
 ghost use Rattle.std.specs.Int.{bit_at};
 ghost use Rattle.kit_ground.specs.declared.place.Deed.TheVariants.{Collected, PostedTo, SawFree};
 ghost use Rattle.kit_ground.specs.Layout.{mail_words};
 ghost use Rattle.kit_ground.specs.Steps.{IsSameSeat, buffer_of};
-ghost use Rattle.kit_courier.specs.Calls.{HasCollected, HasSeen, IsReceived, IsUnmoved, OwesTheSame, ReceiveLeaves, SendLeaves};
+ghost use Rattle.kit_courier.specs.Calls.{HasCollected, HasSeen, IsReceived, IsUnmoved};
+ghost use Rattle.kit_courier.specs.Calls.{OwesTheSame, ReceiveLeaves, SendLeaves};
 ghost use Rattle.kit_courier.specs.Deliveries.{letter_of};
 
 use crate::{Couriers, Deliveries, Letter};
@@ -17,7 +19,8 @@ fn only(federate: u8) -> u16
     1 << federate
 }
 
-/// Sends a letter in an own buffer to another federate and to nobody else, where the buffer is free.
+/// Sends a letter in an own buffer to another federate and to nobody else, where the buffer is
+/// free.
 pub fn send<G: Ground<Under = Couriers>>(seat: &mut G, buffer: u16, to: u8, letter: Letter) -> bool
     requires buffer { buffer < (G.place seat.old).own.buffers }
     requires to { to < (G.place seat.old).own.federates }
@@ -26,11 +29,16 @@ pub fn send<G: Ground<Under = Couriers>>(seat: &mut G, buffer: u16, to: u8, lett
     ensures came { G.came seat.old seat.new }
     ensures look { (after : G) × G.did seat.old (SawFree buffer result) after }
     ensures free { HasSeen (G.place seat.old) buffer result (G.place seat.new) }
-    ensures sent { let sent = (G.place seat.old).client.sent in (G.place seat.new).client.sent ≡ (if result then sent ++ record { to = 2 ^ to; letter = letter } ∷ [] else sent) }
-    ensures written { IsTrue result → letter_of (buffer_of (G.place seat.new).own.stock buffer) ≡ letter }
+    ensures sent { let sent = (G.place seat.old).client.sent in
+        (G.place seat.new).client.sent
+        ≡ (if result then sent ++ record { to = 2 ^ to; letter = letter } ∷ [] else sent) }
+    ensures written { IsTrue result
+        → letter_of (buffer_of (G.place seat.new).own.stock buffer) ≡ letter }
     ensures owed { OwesTheSame (G.place seat.old) (G.place seat.new) }
-    ensures post { IsTrue result → (before : G) × G.did before (PostedTo buffer to) seat.new × IsSameSeat (G.place seat.old) (G.place before) }
-    ensures steps { (G.place seat.new).own.steps ≡ (G.place seat.old).own.steps + (if result then 5 else 1) }
+    ensures post { IsTrue result → (before : G) × G.did before (PostedTo buffer to) seat.new
+        × IsSameSeat (G.place seat.old) (G.place before) }
+    ensures steps { (G.place seat.new).own.steps
+        ≡ (G.place seat.old).own.steps + (if result then 5 else 1) }
     ensures leaves { SendLeaves (G.place seat.old) buffer (G.place seat.new) }
 {
     if !seat.look_free::<Deliveries>(buffer) {
@@ -62,9 +70,11 @@ pub fn receive<G: Ground<Under = Couriers>>(seat: &mut G, from: u8, word: u8) ->
     requires other { from ≢ (G.place seat.old).own.number }
     requires word { word < mail_words (G.place seat.old).own.buffers }
     ensures came { G.came seat.old seat.new }
-    ensures collect { (mail : ℕ) × (after : G) × G.did seat.old (Collected from word mail) after × (result ≡ None → mail ≡ 0) }
+    ensures collect { (mail : ℕ) × (after : G) × G.did seat.old (Collected from word mail) after
+        × (result ≡ None → mail ≡ 0) }
     ensures collected { HasCollected (G.place seat.old) from word (G.place seat.new) }
-    ensures letter { MatchOption result (IsUnmoved (G.place seat.old) from word (G.place seat.new)) (λ letter. IsReceived (G.place seat.old) from word letter (G.place seat.new)) }
+    ensures letter { MatchOption result (IsUnmoved (G.place seat.old) from word (G.place seat.new))
+        (λ letter. IsReceived (G.place seat.old) from word letter (G.place seat.new)) }
     ensures leaves { ReceiveLeaves (G.place seat.old) from word (G.place seat.new) }
 {
     let mail = seat.collect::<Deliveries>(from, word);

@@ -1,5 +1,5 @@
-//! A small client of the floor: federates that learn each other's clocks and send each other letters.
-//! It is the example of how a client is written.
+//! A small client of the floor: federates that learn each other's clocks and send each other
+//! letters. It is the example of how a client is written.
 #![tactic(auto)]
 
 mod clocks;

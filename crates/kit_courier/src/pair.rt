@@ -1,4 +1,5 @@
-ghost use Rattle.std.specs.Prelude.{◌≡◌, ℕ, ◌++◌, map, option_to_list, replicate, slice_index, IfOk, Some};
+ghost use Rattle.std.specs.Prelude.{◌≡◌, ℕ, ◌++◌, map, option_to_list, replicate, slice_index};
+ghost use Rattle.std.specs.Prelude.{IfOk, Some};
 ghost use Rattle.kit_ground.specs.Floors.{new_floor, place_of};
 ghost use Rattle.kit_courier.specs.Deliveries.{courier_first};
 
@@ -12,8 +13,10 @@ pub fn hand_over(floor: &mut PlainFloor<Couriers>, letter: Letter) -> Option<Let
     requires { floor.old ≡ new_floor courier_first 2 2 1 }
     ensures letter { result ≡ Some letter }
     ensures collected { slice_index (place_of courier_first floor.new).own.collects 0 ≡ 1 }
-    ensures got { (place_of courier_first floor.new).client.got ≡ map (λ got. record { from = 0; letter = got }) (option_to_list result) }
-    ensures steps { (sending : ℕ) × (receiving : ℕ) × (floor.new.steps ≡ replicate sending 0 ++ replicate receiving 1) }
+    ensures got { (place_of courier_first floor.new).client.got
+        ≡ map (λ got. record { from = 0; letter = got }) (option_to_list result) }
+    ensures steps { (sending : ℕ) × (receiving : ℕ)
+        × (floor.new.steps ≡ replicate sending 0 ++ replicate receiving 1) }
 {
     send(floor, 0, 1, letter);
     floor.seat(1);

@@ -1,4 +1,5 @@
-//! What a federate knows. Contracts alone see it: no value of these types is made, but for `Letter`.
+//! What a federate knows. Contracts alone see it: no value of these types is made, but for
+//! `Letter`.
 use std::collections::LinkedList;
 
 /// What a buffer carries: its two content words.

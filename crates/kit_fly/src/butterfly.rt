@@ -6,7 +6,8 @@ ghost use Rattle.kit_lbts.specs.declared.view.Scheme.TheVariants as scheme;
 ghost use Rattle.kit_fly.specs.Rounds.{register_in};
 ghost use Rattle.kit_fly.specs.Shows.{HoldsValue, ShowsDue};
 ghost use Rattle.kit_lbts.specs.SeatLaws.{IsInWorld};
-ghost use Rattle.kit_fly.specs.Stages.{AreStagesOf, IsDueSlot, IsExponent, folds_of, registers_among};
+ghost use Rattle.kit_fly.specs.Stages.{AreStagesOf, IsDueSlot, IsExponent, folds_of};
+ghost use Rattle.kit_fly.specs.Stages.{registers_among};
 
 use crate::registers::{RESULT, SHARE, find, register, show};
 use crate::{Poll, Reduction};
@@ -95,7 +96,8 @@ impl Butterfly {
     fn next(&self) -> Reg
         requires { self.now.taken < registers_among self.now.federates self.now.stages self.now.me }
         ensures inside { IsReg self.now.federates result }
-        ensures is { result ≡ register_in scheme.Butterfly self.now.federates self.now.me self.now.round self.now.taken }
+        ensures is { result ≡ register_in scheme.Butterfly self.now.federates self.now.me
+            self.now.round self.now.taken }
     {
         if self.is_outer() {
             return register(self.me - self.width(), self.round, RESULT);
@@ -126,10 +128,24 @@ impl Butterfly {
 
     fn show_value<G: Ground<Under = Lbts>>(&self, ground: &mut G)
         requires world { IsInWorld (G.place ground.old) }
-        requires holds { HoldsValue (record { federates = self.now.federates; number = self.now.me; round = self.now.round; value = self.now.value; taken = self.now.taken }) (G.place ground.old) }
+        requires holds { HoldsValue (record {
+          federates = self.now.federates;
+          number = self.now.me;
+          round = self.now.round;
+          value = self.now.value;
+          taken = self.now.taken;
+        })
+            (G.place ground.old) }
         ensures came { G.came ground.old ground.new }
         ensures world { IsInWorld (G.place ground.new) }
-        ensures shows { ShowsDue (record { federates = self.now.federates; number = self.now.me; round = self.now.round; value = self.now.value; taken = self.now.taken }) (G.place ground.old) (G.place ground.new) }
+        ensures shows { ShowsDue (record {
+          federates = self.now.federates;
+          number = self.now.me;
+          round = self.now.round;
+          value = self.now.value;
+          taken = self.now.taken;
+        })
+            (G.place ground.old) (G.place ground.new) }
     {
         if let Some(stage) = self.due_stage() {
             show(ground, self.me, self.round, stage, self.value);
@@ -153,15 +169,18 @@ impl Butterfly {
 
     /// An outer federate takes the result as it stands: its own share is in it.
     fn take_in(&mut self, share: Share)
-        requires more { self.old.taken < registers_among self.old.federates self.old.stages self.old.me }
+        requires more { self.old.taken < registers_among self.old.federates self.old.stages
+            self.old.me }
         requires fits { FitsWord share }
-        requires together { self.old.me < 2 ^ self.old.stages → FitsWord (share_sum self.old.value share) }
+        requires together { self.old.me < 2 ^ self.old.stages
+            → FitsWord (share_sum self.old.value share) }
         ensures federates { self.new.federates ≡ self.old.federates }
         ensures me { self.new.me ≡ self.old.me }
         ensures stages { self.new.stages ≡ self.old.stages }
         ensures round { self.new.round ≡ self.old.round }
         ensures taken { self.new.taken ≡ self.old.taken + 1 }
-        ensures inner { self.old.me < 2 ^ self.old.stages → self.new.value ≡ share_sum self.old.value share }
+        ensures inner { self.old.me < 2 ^ self.old.stages
+            → self.new.value ≡ share_sum self.old.value share }
         ensures outer { 2 ^ self.old.stages ≤ self.old.me → self.new.value ≡ share }
     {
         self.value = if self.is_outer() {
@@ -179,7 +198,13 @@ impl Reduction for Butterfly {
 
     ghost scheme = { Butterfly };
 
-    ghost state = { λ r. record { federates = r.federates; number = r.me; round = r.round; value = r.value; taken = r.taken } };
+    ghost state = { λ r. record {
+      federates = r.federates;
+      number = r.me;
+      round = r.round;
+      value = r.value;
+      taken = r.taken;
+    } };
 
     fn new(federates: u8, me: u8) -> Butterfly {
         Butterfly {

@@ -30,7 +30,8 @@ impl FlatReduction {
     fn next(&self) -> Reg
         requires { self.now.taken + 1 < self.now.federates }
         ensures inside { IsReg self.now.federates result }
-        ensures is { result ≡ register_in scheme.Flat self.now.federates self.now.me self.now.round self.now.taken }
+        ensures is { result ≡ register_in scheme.Flat self.now.federates self.now.me self.now.round
+            self.now.taken }
     {
         let owner = if self.taken < self.me {
             self.taken
@@ -74,7 +75,13 @@ impl Reduction for FlatReduction {
 
     ghost scheme = { Flat };
 
-    ghost state = { λ r. record { federates = r.federates; number = r.me; round = r.round; value = r.value; taken = r.taken } };
+    ghost state = { λ r. record {
+      federates = r.federates;
+      number = r.me;
+      round = r.round;
+      value = r.value;
+      taken = r.taken;
+    } };
 
     fn new(federates: u8, me: u8) -> FlatReduction {
         FlatReduction {

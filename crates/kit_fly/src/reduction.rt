@@ -17,7 +17,8 @@ pub trait Reduction {
     ghost use Rattle.kit_model.specs.Shares.{share_word};
     ghost use Rattle.kit_lbts.specs.declared.view.Scheme.{Scheme};
     ghost use Rattle.kit_lbts.specs.Reduction.{share_stage};
-    ghost use Rattle.kit_fly.specs.Rounds.{FollowsRound, LeavesSeat, LeavesSlots, RoundState, SlotsShowRound, shown_word};
+    ghost use Rattle.kit_fly.specs.Rounds.{FollowsRound, LeavesSeat, LeavesSlots, RoundState};
+    ghost use Rattle.kit_fly.specs.Rounds.{SlotsShowRound, shown_word};
     ghost use Rattle.kit_fly.specs.Starts.{LooksNowhere, MayStart, view_started};
     ghost use Rattle.kit_lbts.specs.SeatLaws.{IsInWorld};
     ghost use Rattle.kit_fly.specs.Polls.{IsAnswer, IsNew, LooksOnce, TakesIn};
@@ -52,9 +53,11 @@ pub trait Reduction {
         ensures taken { (state self.new).taken ≡ 0 }
         ensures view { (G.place ground.new).client ≡ view_started (G.place ground.old) }
         ensures follows { FollowsRound scheme (state self.new) (G.place ground.new) }
-        ensures share { shown_word (state self.new) (G.place ground.new) share_stage ≡ share_word share round }
+        ensures share { shown_word (state self.new) (G.place ground.new) share_stage
+            ≡ share_word share round }
         ensures shown { SlotsShowRound scheme (state self.new) (G.place ground.new) }
-        ensures slots { LeavesSlots scheme (state self.new) (λ many. many ≡ 0) (G.place ground.old) (G.place ground.new) };
+        ensures slots { LeavesSlots scheme (state self.new) (λ many. many ≡ 0) (G.place ground.old)
+            (G.place ground.new) };
 
     /// Goes on as far as the registers show the round.
     fn poll<G: Ground<Under = Lbts>>(&mut self, ground: &mut G) -> Poll
@@ -64,10 +67,14 @@ pub trait Reduction {
         ensures came { G.came ground.old ground.new }
         ensures world { IsInWorld (G.place ground.new) }
         ensures left { LeavesSeat (G.place ground.old) (G.place ground.new) }
-        ensures taken { TakesIn scheme (state self.old) (state self.new) (G.place ground.old) (G.place ground.new) }
-        ensures answer { IsAnswer scheme (state self.old) (state self.new) (G.place ground.old) (G.place ground.new) result }
-        ensures looks { LooksOnce (state self.old) (state self.new) (G.place ground.old) (G.place ground.new) result }
+        ensures taken { TakesIn scheme (state self.old) (state self.new) (G.place ground.old)
+            (G.place ground.new) }
+        ensures answer { IsAnswer scheme (state self.old) (state self.new) (G.place ground.old)
+            (G.place ground.new) result }
+        ensures looks { LooksOnce (state self.old) (state self.new) (G.place ground.old)
+            (G.place ground.new) result }
         ensures follows { FollowsRound scheme (state self.new) (G.place ground.new) }
         ensures shown { SlotsShowRound scheme (state self.new) (G.place ground.new) }
-        ensures slots { LeavesSlots scheme (state self.new) (IsNew (state self.old) (state self.new)) (G.place ground.old) (G.place ground.new) };
+        ensures slots { LeavesSlots scheme (state self.new)
+            (IsNew (state self.old) (state self.new)) (G.place ground.old) (G.place ground.new) };
 }

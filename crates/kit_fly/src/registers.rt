@@ -48,9 +48,12 @@ pub(crate) fn show<G: Ground<Under = Lbts>>(
     requires me { (G.place ground.old).own.number ≡ me }
     requires stage { stage < 6 }
     requires fits { FitsWord share }
-    requires rule { Keeps agreeing_rule view_after (G.place ground.old) (Register (reg_of me stage round)) (λ _. Published (reg_of me stage round) (share_word share round)) }
+    requires rule { Keeps agreeing_rule view_after (G.place ground.old)
+        (Register (reg_of me stage round))
+        (λ _. Published (reg_of me stage round) (share_word share round)) }
     ensures came { G.came ground.old ground.new }
-    ensures place { G.place ground.new ≡ place_after view_after (Published (reg_of me stage round) (share_word share round)) (G.place ground.old) }
+    ensures place { G.place ground.new ≡ place_after view_after
+        (Published (reg_of me stage round) (share_word share round)) (G.place ground.old) }
     ensures world { IsInWorld (G.place ground.new) }
 {
     ground.publish::<LbtsEvent>(register(me, round, stage), pack_share(share, round));

@@ -58,3 +58,14 @@ below_by_bits a b none =
 -- a number below 2 ^ b with no bit below b is 0
 pub none_by_bits : (a b : ℕ) → a < 2 ^ b → ((i : ℕ) → i < b → bit_at a i ≡ 0) → a ≡ 0
 none_by_bits a b small none = same_from_bits_below b a 0 small (pow_pos b) (λ i li. none i li ∙ sym (bit_at-zero i))
+
+-- numbers whose bits are the same are one
+pub xor_zero : (a b : ℕ) → bit_xor a b ≡ 0 → a ≡ b
+xor_zero a b e = same_from_bits a b (λ i.
+    let x : ℕ = bit_at a i in
+    let y : ℕ = bit_at b i in
+    let s : (x + y) % 2 ≡ 0 = sym (bit_at_xor a b i) ∙ (ap (λ (n : ℕ). bit_at n i) e ∙ bit_at-zero i) in
+    let lx : x < 2 = bit_at-lt a i in
+    let ly : y < 2 = bit_at-lt b i in
+    let same : x ≡ y = omega arith in
+    same)

@@ -21,6 +21,7 @@ pub mod HeldMasks
 pub mod PlaceFacts
 pub mod PlaceSteps
 pub mod WorldFacts
+pub mod StepWorlds
 pub mod Starts
 pub mod Changing
 pub mod PlainSteps

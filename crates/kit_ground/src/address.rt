@@ -3,9 +3,9 @@ ghost use Rattle.kit_ground.specs.Layout.{index_of, is_there, mail_words};
 
 /// A register of a federate. There are 13 for each.
 ///
-/// Slot `(round mod 2) * 6 + stage` is for the stage values of a reduction of that round: 0 to 3 are
-/// the stages of a butterfly, 4 is the federate's own share, and 5 the result for a federate outside
-/// the butterfly. Slot 12 is the federate's clock, the time that it was last granted.
+/// Slot `(round mod 2) * 6 + stage` is for the stage values of a reduction of that round: 0 to 3
+/// are the stages of a butterfly, 4 is the federate's own share, and 5 the result for a federate
+/// outside the butterfly. Slot 12 is the federate's clock, the time that it was last granted.
 #[derive(Clone, Copy, Debug, PartialEq, Eq)]
 pub struct Reg {
     pub owner: u8,

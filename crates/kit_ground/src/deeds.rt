@@ -6,6 +6,7 @@ ghost use Rattle.kit_ground.specs.Steps.{HasMailWord, address_of, becomes, with_
 use crate::{Address, Deed};
 
 /// The bit of a buffer in its mail word.
+#[inline(always)]
 pub fn mail_bit(buffer: u16) -> u64
     ensures { result ≡ 2 ^ (buffer % 64) }
 {
@@ -13,6 +14,7 @@ pub fn mail_bit(buffer: u16) -> u64
 }
 
 /// The number of the mail word that has the bit of this buffer.
+#[inline(always)]
 pub fn mail_word(buffer: u16) -> u8
     requires { buffer < 1024 }
     ensures { result ≡ buffer / 64 }
@@ -22,6 +24,7 @@ pub fn mail_word(buffer: u16) -> u8
 
 impl Deed {
     /// The word that a step of this seat is on.
+    #[inline(always)]
     pub fn address(self, me: u8) -> Address
         requires { HasMailWord self }
         ensures { (o : SeatState) → o.number ≡ me → result ≡ address_of o self }
@@ -71,6 +74,7 @@ impl Deed {
     }
 
     /// What a step did, with the word that it found.
+    #[inline(always)]
     pub fn finding(self, found: u64) -> Deed
         ensures { result ≡ with_found self found }
     {
@@ -106,6 +110,7 @@ impl Deed {
     }
 
     /// What a step makes of the word that it found.
+    #[inline(always)]
     pub fn stored(self, found: u64) -> u64
         ensures { result ≡ becomes self found }
     {

@@ -1,6 +1,12 @@
 //! Laws of the floor: each is the contract of a function that does nothing.
 
-ghost use Rattle.kit_ground.specs.Laws.{WordsAreInside, WordsAreApart, WordsAreStored, ReadersAreCounted, FreeBuffersHaveNobody, UncountedBuffersHaveNobody, CountsAreSmall, NobodyDueHoldsNone, NobodyDueIsOwedNone, ReadersFindWhatWasWritten, ReadersWereCharged, WordsStayForReaders, StepsKeepTheFloor, StepsKeepBothRules, StepsKeepGuests, WorldsTell};
+ghost use Rattle.kit_ground.specs.Laws.{WordsAreInside, WordsAreApart, WordsAreStored};
+ghost use Rattle.kit_ground.specs.Laws.{ReadersAreCounted, FreeBuffersHaveNobody};
+ghost use Rattle.kit_ground.specs.Laws.{UncountedBuffersHaveNobody, CountsAreSmall};
+ghost use Rattle.kit_ground.specs.Laws.{NobodyDueHoldsNone, NobodyDueIsOwedNone};
+ghost use Rattle.kit_ground.specs.Laws.{ReadersFindWhatWasWritten, ReadersWereCharged};
+ghost use Rattle.kit_ground.specs.Laws.{WordsStayForReaders, StepsKeepTheFloor, StepsKeepBothRules};
+ghost use Rattle.kit_ground.specs.Laws.{StepsKeepGuests, WorldsTell};
 
 use crate::Protocol;
 
@@ -12,8 +18,8 @@ pub fn words_stand_apart()
     ensures stored { WordsAreStored }
 {}
 
-/// Whom a count counts: everybody in one of the buffer's three sets, and nobody where it is 0 or the
-/// buffer was seen free; so it is never more than the number of federates.
+/// Whom a count counts: everybody in one of the buffer's three sets, and nobody where it is 0 or
+/// the buffer was seen free; so it is never more than the number of federates.
 pub fn readers_are_counted()
     ensures counted { ReadersAreCounted }
     ensures free { FreeBuffersHaveNobody }
@@ -28,16 +34,16 @@ pub fn sets_are_exact()
     ensures owed { NobodyDueIsOwedNone }
 {}
 
-/// Whoever is in a set of a buffer was charged for, finds in it the words that the owner last wrote,
-/// and these stay through every step that is allowed as long as somebody is.
+/// Whoever is in a set of a buffer was charged for, finds in it the words that the owner last
+/// wrote, and these stay through every step that is allowed as long as somebody is.
 pub fn readers_find_what_was_written<P: Protocol>()
     ensures charged { ReadersWereCharged P.View }
     ensures found { ReadersFindWhatWasWritten }
     ensures stay { WordsStayForReaders P.View }
 {}
 
-/// Every step that is allowed keeps the floor's rule; one that keeps the client's rule in every world
-/// keeps both over a list of words, and what is asked of each guest.
+/// Every step that is allowed keeps the floor's rule; one that keeps the client's rule in every
+/// world keeps both over a list of words, and what is asked of each guest.
 pub fn steps_keep_the_rules<P: Protocol>()
     ensures floor { StepsKeepTheFloor P.View }
     ensures both { StepsKeepBothRules P.rule }

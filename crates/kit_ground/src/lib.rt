@@ -18,4 +18,4 @@ pub use laws::{
     words_stand_apart, worlds_tell,
 };
 pub use place::{Buffer, Deed, Glance, Place, SeatBuffers, SeatState};
-pub use plain::PlainFloor;
+pub use plain::{PlainFloor, zeros};

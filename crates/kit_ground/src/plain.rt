@@ -1,5 +1,5 @@
 //! A floor that one value has whole.
-ghost use Rattle.std.specs.Prelude.{◌≡◌, ◌≤◌, replicate, IfOk};
+ghost use Rattle.std.specs.Prelude.{◌≡◌, ◌<◌, ◌≤◌, length, replicate, IfOk};
 ghost use Rattle.kit_ground.specs.Layout.{size_of};
 
 mod notes;
@@ -32,9 +32,25 @@ impl<P: Protocol> Model for PlainFloor<P> {
 
     ghost Value = { Floor P.Opening P.View };
 
-    ghost view = { λ f. record { opening = f.opening.value; buffers = f.buffers; words = f.words.items; places = f.places.value; seated = f.seated; steps = f.steps.value } };
+    ghost view = { λ f. record {
+      opening = f.opening.value;
+      buffers = f.buffers;
+      words = f.words.items;
+      places = f.places.value;
+      seated = f.seated;
+      steps = f.steps.value;
+    } };
 
-    ghost invariant = { λ f. RulesHold P.rule (record { opening = f.opening.value; buffers = f.buffers; words = f.words.items; places = f.places.value; seated = f.seated; steps = f.steps.value }) × (f.federates ≡ length f.places.value) };
+    ghost invariant = { λ f. RulesHold P.rule
+        (record {
+          opening = f.opening.value;
+          buffers = f.buffers;
+          words = f.words.items;
+          places = f.places.value;
+          seated = f.seated;
+          steps = f.steps.value;
+        })
+        × (f.federates ≡ length f.places.value) };
 }
 
 impl<P: Protocol> PlainFloor<P> {
@@ -56,7 +72,8 @@ impl<P: Protocol> PlainFloor<P> {
     ) -> Result<PlainFloor<P>, AllocError>
         requires federates { (1 ≤ federates) × (federates ≤ 16) }
         requires buffers { (1 ≤ buffers) × (buffers ≤ 1024) }
-        requires rule { P.rule.holds zero_memory (places_at_first (P.first opening.now.value) federates buffers) }
+        requires rule { P.rule.holds zero_memory
+            (places_at_first (P.first opening.now.value) federates buffers) }
         ensures { IfOk result (λ f. f ≡ new_floor P.first opening.now.value federates buffers) }
     {
         let words = zeros(alloc, federates, buffers)?;
@@ -89,6 +106,7 @@ impl<P: Protocol> PlainFloor<P> {
     }
 
     /// The federate that is seated, how many there are, and how many buffers each has.
+    #[inline(always)]
     fn sizes(&self) -> (u8, u8, u16)
         ensures seated { result.0 ≡ self.now.seated }
         ensures federates { result.1 ≡ length self.now.places }
@@ -98,6 +116,7 @@ impl<P: Protocol> PlainFloor<P> {
         (self.seated, self.federates, self.buffers)
     }
 
+    #[inline(always)]
     fn index(&self, address: Address) -> usize
         requires { is_there (length self.now.places) self.now.buffers address ≡ true }
         ensures index { result ≡ index_of (length self.now.places) self.now.buffers address }
@@ -107,6 +126,7 @@ impl<P: Protocol> PlainFloor<P> {
         address.index(federates, buffers)
     }
 
+    #[inline(always)]
     fn load(&self, address: Address) -> u64
         requires { is_there (length self.now.places) self.now.buffers address ≡ true }
         ensures { result ≡ memory self.now address }
@@ -115,6 +135,7 @@ impl<P: Protocol> PlainFloor<P> {
     }
 
     /// A step of the seat that is seated, on the word `at`, which becomes `word`.
+    #[inline(always)]
     fn act<E: Event<P::View>>(&mut self, at: usize, word: u64, deed: Deed)
         requires inside { at < length self.old.words }
         requires kept { RulesHold P.rule (floor_after at word (place_after E.next deed) self.old) }
@@ -127,13 +148,18 @@ impl<P: Protocol> PlainFloor<P> {
     }
 
     /// A step of the seat that is seated, whatever word it finds. It gives that word.
+    #[inline(always)]
     fn step<E: Event<P::View>>(&mut self, about: Deed) -> u64
-        requires allowed { (found : ℕ) → Allowed (place_of P.first self.old).own (with_found about found) found }
-        requires keeps { let p = place_of P.first self.old in Keeps P.rule E.next p (address_of p.own about) (with_found about) }
+        requires allowed { (found : ℕ) → Allowed (place_of P.first self.old).own
+            (with_found about found) found }
+        requires keeps { let p = place_of P.first self.old in
+            Keeps P.rule E.next p (address_of p.own about) (with_found about) }
         ensures came { AreSteps P.first self.old self.new }
         ensures did { IsOneStep P.first self.old (with_found about result) self.new }
-        ensures place { place_of P.first self.new ≡ place_after E.next (with_found about result) (place_of P.first self.old) }
-        ensures told { let p = place_of P.first self.old in WasFound P.rule p (address_of p.own about) result }
+        ensures place { place_of P.first self.new
+            ≡ place_after E.next (with_found about result) (place_of P.first self.old) }
+        ensures told { let p = place_of P.first self.old in
+            WasFound P.rule p (address_of p.own about) result }
     {
         let (me, _, _) = self.sizes();
         let address = about.address(me);
@@ -146,11 +172,14 @@ impl<P: Protocol> PlainFloor<P> {
 }
 
 #[tactic(auto, unfolding(crate::specs::Layout::mail_words))]
-/// The words of a new floor.
-fn zeros(alloc: Global, federates: u8, buffers: u16) -> Result<Vec<u64>, AllocError>
+/// The words of a new floor: each is 0, and there are some.
+///
+/// It fails only for want of memory.
+pub fn zeros(alloc: Global, federates: u8, buffers: u16) -> Result<Vec<u64>, AllocError>
     requires few { federates ≤ 16 }
     requires small { buffers ≤ 1024 }
-    ensures { IfOk result (λ words. words.items ≡ replicate (size_of federates buffers) 0) }
+    ensures all { IfOk result (λ words. words.items ≡ replicate (size_of federates buffers) 0) }
+    ensures some { IfOk result (λ words. 0 < length words.items) }
 {
     let n = usize::from(federates);
     let b = usize::from(buffers);

@@ -1,6 +1,7 @@
 -- How a federate goes on to agree with the simulation: by itself.
 use Rattle.std.proofs.Common.{◌≡◌, ℕ, ◌+◌, min, Bool, true, false, cond, List, [], ◌∷◌, ◌++◌, length, map, fold, Some, None, refl, sym, ap, ◌∙◌, subst, arith}
 use Rattle.std.specs.List.{filter_map}
+use Rattle.std.proofs.lemmas.Grind.{flat_map-append}
 use Rattle.std.proofs.lemmas.List.{append-nil, append_assoc, length-append, length-map}
 use Rattle.kit_base.specs.declared.history.Line.{Line}
 use Rattle.kit_base.specs.declared.history.Line.TheVariants as line
@@ -8,7 +9,7 @@ use Rattle.kit_base.specs.declared.message.Message.{Message}
 use Rattle.kit_base.specs.Order.{in_order, is_before, put}
 use Rattle.kit_model.specs.declared.journal.JournalEntry.{JournalEntry}
 use Rattle.kit_model.specs.declared.journal.JournalEntry.TheVariants.{Received, Delivered, Granted}
-use Rattle.kit_model.specs.Journals.{now_of}
+use Rattle.kit_model.specs.Journals.{line_told, lines_told, now_of}
 use Rattle.kit_parts.specs.Fronts.{IsFront, seat_after}
 use Rattle.kit_rules.specs.declared.table.Request.{Request}
 use Rattle.kit_rules.specs.declared.table.Request.TheVariants.{Tar, Ner}
@@ -21,7 +22,7 @@ use Rattle.kit_rules.specs.Step.{opening_state, state_after}
 use Rattle.kit_lbts.specs.declared.view.LbtsView.{LbtsView}
 use Rattle.kit_lbts.specs.Views.{delivery_of, is_new}
 use Rattle.kit_lbts.specs.Progress.{view_after_start}
-use Rattle.kit_lbts.specs.Agreement.{Agrees, blocks_from, blocks_in, lines_of_journal}
+use Rattle.kit_lbts.specs.Agreement.{Agrees, blocks_from, blocks_in}
 use Rattle.kit_lbts.specs.AgreementLaws.{StartsAgree, TellsTheSame}
 
 -- ---- the due time does not hang on the order of the messages
@@ -60,7 +61,7 @@ loose_from got (Delivered t m ∷ es) = loose_from (got ++ m ∷ []) es
 loose_from got (Granted t ∷ es) = loose_from [] es
 
 -- the entries are the lines of the blocks, and these
-loose_count : (j : ℕ) (got : List Message) (es : List JournalEntry) → length (lines_of_journal j es) + length got ≡ length (lines_of (blocks_from j got es)) + length (loose_from got es)
+loose_count : (j : ℕ) (got : List Message) (es : List JournalEntry) → length (lines_told j es) + length got ≡ length (lines_of (blocks_from j got es)) + length (loose_from got es)
 loose_count j got [] = refl
 loose_count j got (Received m ∷ es) = loose_count j got es
 loose_count j got (Delivered t m ∷ es) = omega (arith, loose_count j (got ++ m ∷ []) es, length-append got (m ∷ []))
@@ -73,7 +74,7 @@ loose_count j got (Granted t ∷ es) =
       length-map got (line.Deliver t j),
     )
 
-none_loose : (j : ℕ) (es : List JournalEntry) → lines_of_journal j es ≡ lines_of (blocks_from j [] es) → loose_from [] es ≡ []
+none_loose : (j : ℕ) (es : List JournalEntry) → lines_told j es ≡ lines_of (blocks_from j [] es) → loose_from [] es ≡ []
 none_loose j es whole = empty (loose_from [] es) (omega (arith, loose_count j [] es, ap length whole))
   where
     empty : (xs : List Message) → length xs ≡ 0 → xs ≡ []
@@ -86,18 +87,12 @@ blocks_on j got (Received m ∷ es) more = blocks_on j got es more
 blocks_on j got (Delivered t m ∷ es) more = blocks_on j (got ++ m ∷ []) es more
 blocks_on j got (Granted t ∷ es) more = ap (λ (l : List Block). block j t got ∷ l) (blocks_on j [] es more)
 
-pub lines_on : (j : ℕ) (es more : List JournalEntry) → lines_of_journal j (es ++ more) ≡ lines_of_journal j es ++ lines_of_journal j more
-lines_on j [] more = refl
-lines_on j (Received m ∷ es) more = lines_on j es more
-lines_on j (Delivered t m ∷ es) more = ap (λ (l : List Line). line.Deliver t j m ∷ l) (lines_on j es more)
-lines_on j (Granted t ∷ es) more = ap (λ (l : List Line). line.Grant t j ∷ l) (lines_on j es more)
-
 -- the entries of a grant are its block
 block_is : (j d : ℕ) (got due : List Message) → blocks_from j got (map (Delivered d) due ++ Granted d ∷ []) ≡ block j d (got ++ due) ∷ []
 block_is j d got [] = ap (λ (l : List Message). block j d l ∷ []) (sym (append-nil got))
 block_is j d got (m ∷ ms) = block_is j d (got ++ m ∷ []) ms ∙ ap (λ (l : List Message). block j d l ∷ []) (append_assoc got (m ∷ []) ms)
 
-lines_are : (j d : ℕ) (due : List Message) → lines_of_journal j (map (Delivered d) due ++ Granted d ∷ []) ≡ block_lines (block j d due)
+lines_are : (j d : ℕ) (due : List Message) → lines_told j (map (Delivered d) due ++ Granted d ∷ []) ≡ block_lines (block j d due)
 lines_are j d [] = refl
 lines_are j d (m ∷ ms) = ap (λ (l : List Line). line.Deliver d j m ∷ l) (lines_are j d ms)
 
@@ -106,7 +101,7 @@ lines_of_on [] b = append-nil (block_lines b)
 lines_of_on (x ∷ xs) b = ap (λ (l : List Line). block_lines x ++ l) (lines_of_on xs b) ∙ sym (append_assoc (block_lines x) (lines_of xs) (block_lines b))
 
 -- a journal after a grant
-pub blocks_granted : (j d : ℕ) (es : List JournalEntry) (due : List Message) → lines_of_journal j es ≡ lines_of (blocks_from j [] es)
+pub blocks_granted : (j d : ℕ) (es : List JournalEntry) (due : List Message) → lines_told j es ≡ lines_of (blocks_from j [] es)
     → blocks_from j [] ((es ++ map (Delivered d) due) ++ Granted d ∷ []) ≡ blocks_from j [] es ++ block j d due ∷ []
 blocks_granted j d es due whole =
     ap (blocks_from j []) (append_assoc es (map (Delivered d) due) (Granted d ∷ []))
@@ -114,11 +109,11 @@ blocks_granted j d es due whole =
     ∙ ap (λ (l : List Message). blocks_from j [] es ++ blocks_from j l (map (Delivered d) due ++ Granted d ∷ [])) (none_loose j es whole)
     ∙ ap (λ (l : List Block). blocks_from j [] es ++ l) (block_is j d [] due)
 
-pub whole_granted : (j d : ℕ) (es : List JournalEntry) (due : List Message) → lines_of_journal j es ≡ lines_of (blocks_from j [] es)
-    → lines_of_journal j ((es ++ map (Delivered d) due) ++ Granted d ∷ []) ≡ lines_of (blocks_from j [] es ++ block j d due ∷ [])
+pub whole_granted : (j d : ℕ) (es : List JournalEntry) (due : List Message) → lines_told j es ≡ lines_of (blocks_from j [] es)
+    → lines_told j ((es ++ map (Delivered d) due) ++ Granted d ∷ []) ≡ lines_of (blocks_from j [] es ++ block j d due ∷ [])
 whole_granted j d es due whole =
-    ap (lines_of_journal j) (append_assoc es (map (Delivered d) due) (Granted d ∷ []))
-    ∙ lines_on j es (map (Delivered d) due ++ Granted d ∷ [])
+    ap (lines_told j) (append_assoc es (map (Delivered d) due) (Granted d ∷ []))
+    ∙ flat_map-append (line_told j) es (map (Delivered d) due ++ Granted d ∷ [])
     ∙ (λ t. whole t ++ lines_are j d due t)
     ∙ sym (lines_of_on (blocks_from j [] es) (block j d due))
 

@@ -19,22 +19,14 @@ use Rattle.kit_rules.specs.Federation.{IsFederation, IsWish}
 use Rattle.kit_rules.specs.Parts.{Parts}
 use Rattle.kit_rules.specs.Simulation.{after_block, after_deliveries, request_at}
 use Rattle.kit_rules.specs.Step.{no_message, state_after}
-use Rattle.kit_rules.proofs.Growth.{AreNumbered, Grows, grows_by_step, grows_more, grows_none}
+use Rattle.kit_rules.proofs.Growth.{AreNumbered}
 use Rattle.kit_rules.proofs.Kept.{kept_by_step}
 use Rattle.kit_lbts.specs.Views.{delivery_of}
 use Rattle.kit_lbts.specs.Seats.{is_buffer, waits_in}
 use Rattle.kit_lbts.proofs.Hands.{count_cons}
-use Rattle.kit_parts.proofs.Counting.{one_false}
+use Rattle.kit_base.proofs.Counting.{one_false}
 
--- the deliveries of a grant, and the whole grant, add messages of the federate
-grows_by_deliveries : (p : Parts) (i d : ℕ) (s : State) (due : List Message) → Grows i s (after_deliveries p i d s due)
-grows_by_deliveries p i d s [] = grows_none i s
-grows_by_deliveries p i d s (m ∷ ms) = grows_more i _ _ _ (grows_by_step p i (Got m.group) d m.value s) (grows_by_deliveries p i d (state_after p i (Got m.group) d m.value s) ms)
-
-pub grows_by_block : (p : Parts) (i d : ℕ) (s : State) (due : List Message) → Grows i s (after_block p i d s due)
-grows_by_block p i d s due = grows_more i _ _ _ (grows_by_deliveries p i d s due) (grows_by_step p i Grant d 0 (after_deliveries p i d s due))
-
--- and keep a wish fit
+-- the deliveries of a grant, and the whole grant, keep a wish fit
 wish_by_deliveries : (p : Parts) (i d : ℕ) (s : State) (due : List Message) → IsFederation p → i < length p.federates → IsWish s.wish → IsWish (after_deliveries p i d s due).wish
 wish_by_deliveries p i d s [] f lt h = h
 wish_by_deliveries p i d s (m ∷ ms) f lt h = wish_by_deliveries p i d (state_after p i (Got m.group) d m.value s) ms f lt ((kept_by_step p i (Got m.group) d m.value s f lt).wish h)

@@ -66,7 +66,7 @@ pub shown_as : (n : ℕ) (ledgers : ℕ → Ledger) (owner stage a b x y : ℕ) 
 shown_as n ledgers owner stage a b x y e f h = subst (λ (t : ℕ × ℕ). ShowsRound n ledgers owner stage t.0 t.1) (λ k. (e k, f k)) h
 
 module _ (p : P) (m : Memory) (places : List P) (w : World lbts_rule p m places) (level : length p.client.contributions ≡ length p.client.results)
-    (idle : p.client.sending ≡ None) (out : ShowsLast p) (fits : FitsWord (next_contribution p).share) where
+    (idle : p.client.sending ≡ None) (out : ShowsLast p) (started : is_new p.client.request ≡ false) (fits : FitsWord (next_contribution p).share) where
   abbrev me : ℕ
   me = p.own.number
 
@@ -236,7 +236,7 @@ module _ (p : P) (m : Memory) (places : List P) (w : World lbts_rule p m places)
     queue = let old = mine.queue in record { ordered = old.ordered; apart = old.apart; is = old.is; ahead = old.ahead; settled = old.settled };
     heard = let old = mine.heard in record { orphans = old.orphans; came = old.came; past = old.past };
     granting = let old = mine.granting in record { lawful = old.lawful; below = old.below; within = old.within; wish = old.wish; asked = old.asked };
-    sends = let old = mine.sends in record { own = old.own; numbered = old.numbered; next = old.next; timed = old.timed; takes_back = old.takes_back; waiting = old.waiting; late = old.late; transported = old.transported; behind = old.behind; once = old.once; each = old.each; receivers = old.receivers; coloured = coloured; few = old.few; new = old.new };
+    sends = let old = mine.sends in record { own = old.own; numbered = old.numbered; next = old.next; timed = old.timed; takes_back = old.takes_back; waiting = old.waiting; late = old.late; transported = old.transported; behind = old.behind; once = old.once; each = old.each; receivers = old.receivers; coloured = coloured; few = old.few; new = λ e. absurd (true≢false (sym (ap is_new e) ∙ started)) };
     ways = λ i j x s ti tj.
         let b = still (λ (y : P). y.own.buffers) places me p q refl i x ti in
         subst (λ (y : ℕ). Way y (marked now i j) i j x.client s.client) (sym b)
@@ -285,13 +285,13 @@ module _ (p : P) (level : length p.client.contributions ≡ length p.client.resu
 
   from_ready : (b : Bool) → is_new p.client.request ≡ b → After (cond b (view_after_start p.own.number p.client) p.client)
   from_ready false e =
-      contribution p m places w level idle out (next_fits p m places w p.own.number p w.here)
+      contribution p m places w level idle out e (next_fits p m places w p.own.number p w.here)
   from_ready true e =
       let p' : P = record p { client = view_after_start p.own.number p.client } in
       let word : ℕ = word_of (view_after_start p.own.number p.client) in
       let then = started_world p e (subst (λ (b : Bool). length (cond b (view_after_start p.own.number p.client) p.client).state.sends ≤ most_sends) e few) m places w in
       subst (LbtsRule (with_word m (Register reg) word)) (set-set places p.own.number p' (record { own = own_after (Published reg word) p.own; client = view_after_contribution p' }))
-      (contribution p' m (slice_set places p.own.number p') then level idle out (next_fits p' m (slice_set places p.own.number p') then p.own.number p' then.here))
+      (contribution p' m (slice_set places p.own.number p') then level idle out refl (next_fits p' m (slice_set places p.own.number p') then p.own.number p' then.here))
 
   is_share : (u g c x : LbtsView) (a b : Bool) → a ≡ false → b ≡ true → cond a g (cond b u (cond (reg.slot % 6 == 0) c x)) ≡ u
   is_share u g c x true b clock own = absurd (true≢false clock)

@@ -19,7 +19,7 @@ use Rattle.kit_model.specs.Blocks.{everybody, in_block, share_sum_over, width}
 use Rattle.kit_model.specs.Counts.{is_old}
 use Rattle.kit_model.specs.Shares.{FitsWord}
 use Rattle.kit_model.proofs.Sieves.{all_pass, least_le_start}
-use Rattle.kit_parts.proofs.Counting.{count_by-cons, one_if, one_false, one_true}
+use Rattle.kit_base.proofs.Counting.{count_cons, one_if, one_false, one_true}
 use Rattle.kit_parts.proofs.Itself.{nobody_sends_to_itself_law}
 use Rattle.kit_rounds.specs.declared.contribution.Contribution.{Contribution}
 use Rattle.kit_rounds.specs.Ledgers.{Copy, Ledger, at_round, colours, nothing}
@@ -49,7 +49,7 @@ P = Place LbtsView
 -- ---- lists
 count_all : {X : Type 0} (xs : List X) → count_by (λ _. true) xs ≡ length xs
 count_all [] = refl
-count_all (x ∷ xs) = let c = count_by-cons (λ _. true) x xs in let r = count_all xs in omega arith
+count_all (x ∷ xs) = let c = count_cons (λ _. true) x xs in let r = count_all xs in omega arith
 
 none_pass : {X : Type 0} (t : X → Bool) (xs : List X) → All (λ x. t x ≡ false) xs → length (filter t xs) ≡ 0
 none_pass t [] h = refl
@@ -80,17 +80,17 @@ module _ {X : Type 0} (key : X → ℕ) where
   count_next : (m : ℕ) (xs : List X) → count_by (λ x. nat_lt (key x) (suc m)) xs ≡ count_by (λ x. nat_lt (key x) m) xs + count_by (λ x. key x == m) xs
   count_next m [] = refl
   count_next m (x ∷ xs) =
-      let a = count_by-cons (λ x. nat_lt (key x) (suc m)) x xs in let b = count_by-cons (λ x. nat_lt (key x) m) x xs in let c = count_by-cons (λ x. key x == m) x xs in
+      let a = count_cons (λ x. nat_lt (key x) (suc m)) x xs in let b = count_cons (λ x. nat_lt (key x) m) x xs in let c = count_cons (λ x. key x == m) x xs in
       let r = count_next m xs in let n = next_key (key x) m in omega arith
 
   count_none : (xs : List X) → count_by (λ x. nat_lt (key x) 0) xs ≡ 0
   count_none [] = refl
-  count_none (x ∷ xs) = let a = count_by-cons (λ x. nat_lt (key x) 0) x xs in let b = one_false (nat_lt (key x) 0) (le-ltb (key x) 0 (omega arith)) in let r = count_none xs in omega arith
+  count_none (x ∷ xs) = let a = count_cons (λ x. nat_lt (key x) 0) x xs in let b = one_false (nat_lt (key x) 0) (le-ltb (key x) 0 (omega arith)) in let r = count_none xs in omega arith
 
   count_below : (n : ℕ) (xs : List X) → All (λ x. key x < n) xs → count_by (λ x. nat_lt (key x) n) xs ≡ length xs
   count_below n [] h = refl
   count_below n (x ∷ xs) h =
-      let a = count_by-cons (λ x. nat_lt (key x) n) x xs in let b = one_true (nat_lt (key x) n) (lt-ltb (key x) n (All-head (λ x. key x < n) x xs h)) in
+      let a = count_cons (λ x. nat_lt (key x) n) x xs in let b = one_true (nat_lt (key x) n) (lt-ltb (key x) n (All-head (λ x. key x < n) x xs h)) in
       let r = count_below n xs (All-tail (λ x. key x < n) x xs h) in omega arith
 
   -- each key is that of 16,384 at most, and one key of none

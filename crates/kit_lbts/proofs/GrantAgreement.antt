@@ -23,13 +23,14 @@ use Rattle.kit_rules.specs.declared.table.Request.{Request}
 use Rattle.kit_rules.specs.Delivery.{due_messages, due_time, pending_messages}
 use Rattle.kit_rules.specs.Parts.{Parts}
 use Rattle.kit_rules.specs.Simulation.{Block, Seat, after_block, block, lines_of, request_at, seat_due, seat_at_start}
+use Rattle.kit_model.specs.Journals.{lines_told}
 use Rattle.kit_lbts.specs.declared.view.LbtsView.{LbtsView}
 use Rattle.kit_lbts.specs.Views.{delivered, due_of, entries_of, is_new, received, time_of}
 use Rattle.kit_lbts.specs.Promises.{bound_of}
 use Rattle.kit_lbts.specs.Reduction.{clock_of}
 use Rattle.kit_lbts.specs.Progress.{due_in, view_after_grant, view_after}
 use Rattle.kit_lbts.specs.Rule.{lbts_rule}
-use Rattle.kit_lbts.specs.Agreement.{Agrees, AllAgree, agreeing_rule, blocks_from, blocks_in, lines_of_journal, place_at, progress_at, seat_of, transit_at, waiting_at}
+use Rattle.kit_lbts.specs.Agreement.{Agrees, AllAgree, agreeing_rule, blocks_from, blocks_in, place_at, progress_at, seat_of, transit_at, waiting_at}
 use Rattle.kit_lbts.specs.AgreementLaws.{AsidesAgree}
 use Rattle.kit_lbts.specs.PublishLaws.{GrantsKeep}
 use Rattle.kit_lbts.proofs.Agreeing.{agrees_same, blocks_granted, due_ordered, whole_granted}
@@ -119,7 +120,7 @@ module _ (p : P) (asked : p.client.request ≢ None) (none : p.client.outbox ≡
   pub agrees_granted : Agrees p.own.number (view_after_grant p.own.number (due_of p.client) p.client)
   agrees_granted = record {
     new = λ e. absurd (still_asked (nat_lt d f.end) (request_at after.wish d f.end) e);
-    whole = ap (lines_of_journal me) (step.entries_are p asked none lt below loose m places w) ∙ whole_granted me d (entries_of v) due old.whole ∙ ap lines_of (sym blocks_are);
+    whole = ap (lines_told me) (step.entries_are p asked none lt below loose m places w) ∙ whole_granted me d (entries_of v) due old.whole ∙ ap lines_of (sym blocks_are);
     front = subst (IsFront f me) (sym blocks_are) front;
     seat = λ r e.
         let b : Block = block me d due in

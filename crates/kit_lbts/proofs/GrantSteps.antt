@@ -54,7 +54,8 @@ use Rattle.kit_lbts.specs.Ways.{Way, WayBetween, marked, letters_posted_to}
 use Rattle.kit_lbts.specs.Progress.{due_in, view_after_grant, noted, view_after}
 use Rattle.kit_lbts.specs.PublishLaws.{GrantsKeep}
 use Rattle.kit_lbts.specs.Rule.{LbtsRule, FederateRule, lbts_rule}
-use Rattle.kit_lbts.proofs.Blocks.{asked_after, delivered_lawful, deliveries_in, grows_by_block, held_on, numbered_from, wish_by_block}
+use Rattle.kit_laws.proofs.Joins.{grows_by_block}
+use Rattle.kit_lbts.proofs.Blocks.{asked_after, delivered_lawful, deliveries_in, held_on, numbered_from, wish_by_block}
 use Rattle.kit_lbts.proofs.Charging.{AreInPlace, more_behind, more_sent}
 use Rattle.kit_lbts.proofs.Changes.{ChangedAt, Was, still, ways_to}
 use Rattle.kit_lbts.proofs.Copies.{one_number}

@@ -6,6 +6,7 @@ use Rattle.std.proofs.lemmas.Bool.{and_parts, ne_eqb, and_right, or_cases, or_pa
 use Rattle.std.proofs.lemmas.List.Sums.{sum_by-cons, sum_by-append, sum_by_push}
 use Rattle.std.proofs.lemmas.List.Elements.{Contains-append_right, All-nil, All-cons, All-map, All-weaker}
 use Rattle.std.proofs.lemmas.List.Folds.{list_any_at}
+pub use Rattle.kit_base.proofs.Counting.{count_any, count_cons, count_has, one_false, one_if, one_true}
 use mathlib.Core.Logic.{dite}
 use native.Mathlib.Decide.{ℕ_discrete}
 use Rattle.kit_lbts.specs.declared.view.InHand.{InHand}
@@ -16,22 +17,8 @@ use Rattle.kit_queue.specs.Entries.{messages_of, without_buffer}
 use Rattle.kit_lbts.specs.Seats.{waits_in, is_buffer}
 use Rattle.kit_lbts.specs.Progress.{in_hand}
 
--- 1 where a test passes
-abbrev pub one_if : Bool → ℕ
-one_if b = cond b 1 0
-
-one_true : (b : Bool) → b ≡ true → one_if b ≡ 1
-one_true b e = ap one_if e
-
-one_false : (b : Bool) → b ≡ false → one_if b ≡ 0
-one_false b e = ap one_if e
-
 -- lists in general
 module _ {X : Type 0} where
-  -- a step of a count
-  pub count_cons : (p : X → Bool) (x : X) (xs : List X) → count_by p (x ∷ xs) ≡ one_if (p x) + count_by p xs
-  count_cons p x xs = sum_by-cons (λ x. one_if (p x)) x xs
-
   pub count_append : (p : X → Bool) (xs ys : List X) → count_by p (xs ++ ys) ≡ count_by p xs + count_by p ys
   count_append p xs ys = sum_by-append (λ x. one_if (p x)) xs ys
 
@@ -46,13 +33,6 @@ module _ {X : Type 0} where
   pub count_none : (p : X → Bool) (xs : List X) → ((x : X) → p x ≡ false) → count_by p xs ≡ 0
   count_none p [] h = refl
   count_none p (x ∷ xs) h = let c = count_cons p x xs in let e = one_false (p x) (h x) in let r = count_none p xs h in omega arith
-
-  pub count_any : (p : X → Bool) (xs : List X) → list_any p xs ≡ true → 0 < count_by p xs
-  count_any p [] h = absurd (cc)
-  count_any p (x ∷ xs) h = ⊎_elim
-      (λ (e : p x ≡ true). let c = count_cons p x xs in let o = one_true (p x) e in omega arith)
-      (λ (e : list_any p xs ≡ true). let c = count_cons p x xs in let r = count_any p xs e in omega arith)
-      (or_cases (p x) (list_any p xs) h)
 
   pub count_not_any : (p : X → Bool) (xs : List X) → list_any p xs ≡ false → count_by p xs ≡ 0
   count_not_any p [] h = refl
@@ -78,10 +58,6 @@ module _ {X : Type 0} where
       (λ (e : p x ≡ true). ap (count_by p) (filter_yes p x xs e) ∙ count_gone p xs)
       (λ (e : p x ≡ false). ap (count_by p) (filter_no p x xs e) ∙ (let d = count_cons p x (filter (λ x. not (p x)) xs) in let o = one_false (p x) e in let r = count_gone p xs in omega arith))
       (cases_Bool (p x))
-
-  -- an element that passes counts
-  pub count_has : (p : X → Bool) (xs : List X) (x : X) → Contains xs x → p x ≡ true → 0 < count_by p xs
-  count_has p xs x has passes = count_any p xs (list_any_at p xs has.0 x has.1 (ap p has.2 ∙ passes))
 
   -- one that is found passes, and is there
   pub found_passes : (p : X → Bool) (xs : List X) (x : X) → find p xs ≡ Some x → (p x ≡ true) × Contains xs x

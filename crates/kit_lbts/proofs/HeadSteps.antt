@@ -103,7 +103,7 @@ module _ (p : P) (i k : ℕ) (li : i < p.own.federates) (lk : k < p.own.buffers)
     queue = let old = (mine p m places w now deed).queue in record { ordered = old.ordered; apart = old.apart; is = old.is; ahead = old.ahead; settled = old.settled };
     heard = let old = (mine p m places w now deed).heard in record { orphans = old.orphans; came = old.came; past = old.past };
     granting = let old = (mine p m places w now deed).granting in record { lawful = old.lawful; below = old.below; within = old.within; wish = old.wish; asked = old.asked };
-    sends = let old = (mine p m places w now deed).sends in record { own = old.own; numbered = old.numbered; next = old.next; timed = old.timed; takes_back = old.takes_back; waiting = old.waiting; late = old.late; transported = old.transported; behind = old.behind; once = old.once; each = old.each; receivers = old.receivers; coloured = old.coloured; few = old.few; new = λ e. let t = old.new e in (t.0, t.1, t.2, t.3, ap (map (headed i k word)) t.4) };
+    sends = let old = (mine p m places w now deed).sends in record { own = old.own; numbered = old.numbered; next = old.next; timed = old.timed; takes_back = old.takes_back; waiting = old.waiting; late = old.late; transported = old.transported; behind = old.behind; once = old.once; each = old.each; receivers = old.receivers; coloured = old.coloured; few = old.few; new = λ e. let t = old.new e in (t.0, t.1, t.2, t.3, ap (map (headed i k word)) t.4, t.5) };
     ways = ways_to places me p q (WayBetween now) way_me (λ a l r s other at ta.
         let b = still (λ (x : P). x.own.buffers) places me p q refl a r ta in
         subst (λ (n : ℕ). Way n (marked now a l) a l r.client s.client) (sym b)

@@ -54,3 +54,6 @@ pub mod Shortage
 pub mod Worlds
 pub mod Lows
 pub mod SeatFacts
+pub mod FewColours
+pub mod ReadyWorlds
+pub mod MailBits

@@ -18,7 +18,7 @@ use Rattle.kit_queue.specs.Entries.{messages_of}
 use Rattle.kit_parts.specs.Cuts.{AreBounded, AreSound, AreSplit}
 use Rattle.kit_parts.specs.Fronts.{IsFront, Standing, is_by, is_transported_to as is_sent_to, sends_after, sent_by}
 use Rattle.kit_parts.specs.Promises.{promise, promise_after, promise_at, seat_promise}
-use Rattle.kit_parts.proofs.Counting.{count_by-cons, one_if}
+use Rattle.kit_base.proofs.Counting.{count_cons, one_if}
 use Rattle.kit_parts.proofs.InOrder.{copies_are_transported_law}
 use Rattle.kit_rounds.specs.Channels.{IsUnreceived, is_copy, posts_of, receipts_of, same_stamp}
 use Rattle.kit_rounds.specs.Ledgers.{Ledger, Stamp, blank}
@@ -58,7 +58,7 @@ count_replicate t zero x = by (t x)
     by : (b : Bool) → count_by t [] ≡ cond b 0 0
     by true = refl
     by false = refl
-count_replicate t (suc n) x = count_by-cons t x (replicate n x) ∙ by (t x) (count_replicate t n x)
+count_replicate t (suc n) x = count_cons t x (replicate n x) ∙ by (t x) (count_replicate t n x)
   where
     by : (b : Bool) → count_by t (replicate n x) ≡ cond b n 0 → one_if b + count_by t (replicate n x) ≡ cond b (suc n) 0
     by true h = omega (arith, h)

@@ -25,7 +25,7 @@ use Rattle.kit_lbts.specs.Views.{due_of, time_of}
 use Rattle.kit_lbts.specs.Progress.{due_in}
 use Rattle.kit_lbts.specs.Agreement.{Agrees, agreeing_rule, blocks_in}
 use Rattle.kit_lbts.specs.AgreementLaws.{NextBlocksAgree, OutstandingIsNeeded, SpentAtGrants, SpentAtStarts}
-use Rattle.kit_lbts.proofs.Blocks.{grows_by_block}
+use Rattle.kit_laws.proofs.Joins.{grows_by_block}
 use Rattle.kit_lbts.proofs.GrantAgreement.{before, front, without_agreement}
 
 abbrev P : Type 0

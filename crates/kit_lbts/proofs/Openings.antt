@@ -129,7 +129,7 @@ module _ (o : Opening) (sound : IsFederation o.federation.value) where
     receivers = All-nil _;
     coloured = All-nil _;
     few = omega arith;
-    new = λ none. (refl, refl, refl, refl, refl);
+    new = λ none. (refl, refl, refl, refl, refl, refl);
   }
 
   ways : (i j : ℕ) → WayBetween zero_memory i j (seat i) (seat j)

@@ -2,6 +2,7 @@
 use Rattle.std.proofs.Common.{◌≡◌, ◌≢◌, ℕ, zero, suc, ◌%◌, ◌==◌, ◌&&◌, not, ◌⊎◌, inl, inr, Bool, true, false, cond, List, [], ◌∷◌, ◌++◌, length, map, filter, Option, Some, None, refl, sym, ap, ◌∙◌, subst, true≢false}
 use Rattle.std.specs.List.{filter_map, list_any}
 use Rattle.std.proofs.lemmas.Bool.{ne_eqb}
+use Rattle.std.proofs.lemmas.Grind.{flat_map-append}
 use Rattle.std.proofs.lemmas.List.{append-nil, map-append}
 use Rattle.std.proofs.lemmas.List.Elements.{filter_map-append}
 use Rattle.kit_base.specs.declared.message.Kind.{Kind}
@@ -15,7 +16,7 @@ use Rattle.kit_ground.specs.declared.place.Place.{Place}
 use Rattle.kit_ground.specs.Steps.{place_after}
 use Rattle.kit_ground.proofs.PlaceSteps.{each_after}
 use Rattle.kit_model.specs.declared.journal.JournalEntry.TheVariants.{Received}
-use Rattle.kit_model.specs.Journals.{now_of}
+use Rattle.kit_model.specs.Journals.{line_told, lines_told, now_of}
 use Rattle.kit_model.specs.Shares.{share_of}
 use Rattle.kit_model.proofs.Lawful.{others_keep_the_time}
 use Rattle.kit_queue.specs.Entries.{put_entry, without_buffer}
@@ -30,9 +31,9 @@ use Rattle.kit_lbts.specs.Promises.{next_contribution}
 use Rattle.kit_lbts.specs.Reduction.{share_with_taken, next_source, share_stage, sources}
 use Rattle.kit_lbts.specs.Seats.{waits_in}
 use Rattle.kit_lbts.specs.Progress.{view_after_close, view_after_close_if_flat, view_after_contribution, view_after_grant, head_in, is_under_way, view_after_look, message_in, own_share, view_after, put_down, view_when_ready, received_whole, shows_next, spent, view_after_start, taken_in}
-use Rattle.kit_lbts.specs.Agreement.{Agrees, blocks_from, blocks_in, lines_of_journal}
+use Rattle.kit_lbts.specs.Agreement.{Agrees, blocks_from, blocks_in}
 use Rattle.kit_lbts.specs.AgreementLaws.{IsNoGrant, OthersAgree, TellsTheSame}
-use Rattle.kit_lbts.proofs.Agreeing.{agrees_same, blocks_on, lines_on, starts_agree}
+use Rattle.kit_lbts.proofs.Agreeing.{agrees_same, blocks_on, starts_agree}
 use Rattle.kit_lbts.proofs.GrantAgreement.{without_agreement}
 
 abbrev P : Type 0
@@ -93,7 +94,7 @@ entered_tells m colour hands v =
       federation = refl;
       state = refl;
       request = refl;
-      lines = λ j. ap (lines_of_journal j) more ∙ lines_on j (entries_of v) (Received m ∷ []) ∙ append-nil (lines_of_journal j (entries_of v));
+      lines = λ j. ap (lines_told j) more ∙ flat_map-append (line_told j) (entries_of v) (Received m ∷ []) ∙ append-nil (lines_told j (entries_of v));
       blocks = λ j. ap (blocks_from j []) more ∙ blocks_on j [] (entries_of v) (Received m ∷ []) ∙ append-nil (blocks_in j v);
       time = ap now_of more ∙ others_keep_the_time (entries_of v) (Received m) refl;
       delivered = ap (filter_map delivery_of) more ∙ filter_map-append delivery_of (entries_of v) (Received m ∷ []) ∙ append-nil (delivered v);

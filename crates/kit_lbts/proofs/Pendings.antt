@@ -13,10 +13,9 @@ use Rattle.std.proofs.lemmas.List.Sums.{fold_push}
 use Rattle.kit_base.specs.declared.message.Message.{Message}
 use Rattle.kit_base.specs.Order.{in_order, is_before, key_cmp, put}
 use Rattle.kit_base.proofs.Lists.{all_filter, each_weaker}
-use Rattle.kit_base.proofs.Orders.{all_put}
+use Rattle.kit_base.proofs.Orders.{all_put, key_total}
 use Rattle.kit_queue.specs.declared.entry.Entry.{Entry}
 use Rattle.kit_queue.specs.Entries.{AreNumberedApart, entry_of, is_numbered, messages_of, put_entry, shares_number, entries_without}
-use Rattle.kit_queue.proofs.Keys.{key_cmp_total}
 use Rattle.kit_rules.specs.Parts.{Parts}
 use Rattle.kit_rules.specs.Delivery.{has_bit, is_pending, is_same, is_transported, pending_messages, receivers_of, retracts}
 use Rattle.kit_rules.specs.Step.{is_event}
@@ -76,7 +75,7 @@ is_less Equal e = absurd (true≢false (sym e))
 is_less Greater e = absurd (true≢false (sym e))
 
 after_less : (m x : Message) → key_cmp m x ≡ Less → key_cmp x m ≡ Greater
-after_less m x e = key_cmp_total.antisymm x m ∙ ap ordering_reverse e
+after_less m x e = key_total.antisymm x m ∙ ap ordering_reverse e
 
 -- before one that is not after another, so before that
 before_later : (m x y : Message) → is_before m x ≡ true → is_before y x ≡ false → is_before m y ≡ true
@@ -84,8 +83,8 @@ before_later m x y less not_less = by (key_cmp m y) refl
   where
     by : (o : Ordering) → key_cmp m y ≡ o → is_lt (key_cmp m y) ≡ true
     by Less e = ap is_lt e
-    by Equal e = absurd (true≢false (sym (ap is_lt (key_cmp_total.antisymm y x ∙ ap ordering_reverse (sym (alike_right key_cmp_total m y x e) ∙ after_less m x (is_less (key_cmp m x) less)))) ∙ not_less))
-    by Greater e = absurd (true≢false (sym (ap is_lt (key_cmp_total.trans y m x (key_cmp_total.antisymm y m ∙ ap ordering_reverse e) (is_less (key_cmp m x) less))) ∙ not_less))
+    by Equal e = absurd (true≢false (sym (ap is_lt (key_total.antisymm y x ∙ ap ordering_reverse (sym (alike_right key_total m y x e) ∙ after_less m x (is_less (key_cmp m x) less)))) ∙ not_less))
+    by Greater e = absurd (true≢false (sym (ap is_lt (key_total.trans y m x (key_total.antisymm y m ∙ ap ordering_reverse e) (is_less (key_cmp m x) less))) ∙ not_less))
 
 not_back : (m x y : Message) → is_before m x ≡ true → is_before y x ≡ false → is_before y m ≡ false
 not_back m x y less not_less = ap is_lt (after_less m y (is_less (key_cmp m y) (before_later m x y less not_less)))

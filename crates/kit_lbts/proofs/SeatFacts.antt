@@ -1,5 +1,6 @@
 -- What a federate's own place tells, in any world in which the rule holds.
-use Rattle.std.proofs.Common.{◌≡◌, ℕ, ◌+◌, ◌<◌, ◌≤◌, ◌==◌, Bool, List, true, false, cond, length, filter, get_or, Option, refl, sym, ap, ◌∙◌, subst, arith, eq-eqb}
+use Rattle.std.proofs.Common.{◌≡◌, ℕ, ◌+◌, ◌<◌, ◌≤◌, ◌==◌, Bool, List, true, false, cond, length, filter, get_or, unwrap_or, Option, refl, sym, ap, ◌∙◌, subst, arith, eq-eqb}
+use Rattle.std.specs.Prelude.{None, Some, IfSome}
 use Rattle.std.specs.List.{All, Contains}
 use Rattle.std.proofs.lemmas.List.Elements.{All-contains, All-contains_itself, All-weaker}
 use mathlib.Core.Option.{some}
@@ -13,6 +14,7 @@ use Rattle.kit_rules.specs.Parts.{Parts}
 use Rattle.kit_lbts.proofs.Agreeing.{due_ordered}
 use Rattle.kit_ground.specs.declared.place.Place.{Place}
 use Rattle.kit_ground.proofs.Lists.{at_inside, at_or}
+use Rattle.kit_model.specs.Journals.{last_grant}
 use Rattle.kit_model.specs.Shares.{FitsWord}
 use Rattle.kit_queue.specs.Entries.{messages_of}
 use Rattle.kit_rounds.specs.Ledgers.{Copy, Ledger, last_run}
@@ -22,11 +24,11 @@ use Rattle.kit_rules.specs.declared.table.Request.{Request}
 use Rattle.kit_lbts.specs.declared.view.Filled.{Filled}
 use Rattle.kit_lbts.specs.declared.view.LbtsView.{LbtsView}
 use Rattle.kit_lbts.specs.declared.view.Posting.{Posting}
-use Rattle.kit_lbts.specs.Promises.{copy_posted, ledger_of, ledgers_of, next_contribution}
+use Rattle.kit_lbts.specs.Promises.{bound_of, copy_posted, ledger_of, ledgers_of, next_contribution}
 use Rattle.kit_lbts.specs.Rule.{FederateRule}
-use Rattle.kit_lbts.specs.SeatLaws.{CopiesAreFew, DuesAreAhead, DuesGoByFirst, NextSharesFit, PlacesTell, ReceiptsAreNear}
+use Rattle.kit_lbts.specs.SeatLaws.{CopiesAreFew, DuesAreAhead, DuesGoByFirst, IsInWorld, NextSharesFit, PlacesTell, ReceiptsAreNear}
 use Rattle.kit_lbts.specs.Seats.{most_sends}
-use Rattle.kit_lbts.specs.Views.{delivered, due_by, is_new, receipts, received}
+use Rattle.kit_lbts.specs.Views.{delivered, due_by, entries_of, is_new, receipts, received, time_of}
 use Rattle.kit_lbts.specs.Ways.{letters_posted_to, letters_received_from}
 use Rattle.kit_lbts.specs.Progress.{view_after_start}
 use Rattle.kit_lbts.proofs.Dues.{due_between}
@@ -91,6 +93,14 @@ next_shares_fit p (m, places, w) few = by (is_new p.client.request) refl few
         let q : P = record p { client = view_after_start p.own.number p.client } in
         let x = started_world p e small m places (without_agreement p m places w) in
         next_fits q m _ x p.own.number q x.here
+
+-- where the bound is not beyond the end, the end was not granted
+pub early_of : (p : P) → IsInWorld p → bound_of p.client ≤ p.client.federation.end → time_of p.client < p.client.federation.end
+early_of p w le = by (last_grant (entries_of p.client)) (places_tell p w).granting.below
+  where
+    by : (o : Option ℕ) → IfSome o (λ t. t < bound_of p.client) → unwrap_or o 0 < p.client.federation.end
+    by None h = (places_tell p w).federation.end.0
+    by (Some t) h = omega (arith, h, le)
 
 same_colour : (x : Posting) (f : Filled) → x.filled ≡ f → x.filled.colour ≡ f.colour
 same_colour x f e = ap (λ (y : Filled). y.colour) e

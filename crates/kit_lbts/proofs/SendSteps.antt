@@ -6,7 +6,7 @@ use Rattle.std.specs.Int.{bit_at}
 use Rattle.std.proofs.lemmas.Bool.{cases_Bool, ne_eqb, or_right, and_parts, leb-true}
 use Rattle.std.proofs.lemmas.List.Elements.{All-drop, All-push, All-head, filter-append}
 use Rattle.std.proofs.lemmas.List.{map-append, append-nil}
-use Rattle.std.proofs.lemmas.Nat.Bits.{bit_at-lt, bit_at-zero, bit_at-pow_other, bit_at_xor, same_from_bits}
+use Rattle.std.proofs.lemmas.Nat.Bits.{bit_at-zero, bit_at-pow_other}
 use Rattle.std.specs.Int.Bits.{xor_self}
 use mathlib.Core.Logic.{dite}
 use mathlib.Core.Option.{some}
@@ -22,7 +22,7 @@ use Rattle.kit_ground.specs.declared.place.SeatBuffers.{SeatBuffers}
 use Rattle.kit_ground.specs.Memory.{Memory, with_word}
 use Rattle.kit_ground.specs.Rules.{RuleStays, World}
 use Rattle.kit_ground.specs.Steps.{place_after, becomes, buffer_of, buffer_after_post}
-use Rattle.kit_ground.proofs.Bits.{flipped_else, flipped_here, joined_else, joined_here}
+use Rattle.kit_ground.proofs.Bits.{flipped_else, flipped_here, joined_else, joined_here, xor_zero}
 use Rattle.kit_ground.proofs.Lists.{at_inside}
 use Rattle.kit_ground.proofs.MailWords.{same_buffer}
 use Rattle.kit_ground.proofs.Memories.{mail_else, stored_here}
@@ -54,17 +54,6 @@ use Rattle.kit_lbts.proofs.Ways.{got, way_still, way_posted}
 
 abbrev P : Type 0
 P = Place LbtsView
-
--- numbers whose bits are the same are one
-xor_zero : (a b : ℕ) → bit_xor a b ≡ 0 → a ≡ b
-xor_zero a b e = same_from_bits a b (λ i.
-    let x : ℕ = bit_at a i in
-    let y : ℕ = bit_at b i in
-    let s : (x + y) % 2 ≡ 0 = sym (bit_at_xor a b i) ∙ (ap (λ (n : ℕ). bit_at n i) e ∙ bit_at-zero i) in
-    let lx : x < 2 = bit_at-lt a i in
-    let ly : y < 2 = bit_at-lt b i in
-    let same : x ≡ y = omega arith in
-    same)
 
 -- without the first, where it is taken out
 all_left : {X : Type 0} (A : X → Type 0) (b : Bool) (xs : List X) → All A xs → All A (cond b (drop 1 xs) xs)

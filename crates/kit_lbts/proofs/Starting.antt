@@ -52,7 +52,7 @@ use Rattle.kit_lbts.proofs.Ways.{got, sent, way_still}
 abbrev P : Type 0
 P = Place LbtsView
 
-new_is : (r : Option Request) → is_new r ≡ true → r ≡ None
+pub new_is : (r : Option Request) → is_new r ≡ true → r ≡ None
 new_is None e = refl
 new_is (Some r) e = absurd (true≢false (sym e))
 
@@ -102,7 +102,7 @@ module _ (p : P) (fresh : is_new p.client.request ≡ true) (few : length (view_
   rule : FederateRule m places p.own.number p
   rule = w.client.each me p w.here
 
-  none : (p.client.state.sends ≡ []) × (p.client.posted ≡ []) × (p.client.journal ≡ []) × (p.client.outbox ≡ []) × (p.client.in_hand ≡ [])
+  none : (p.client.state.sends ≡ []) × (p.client.posted ≡ []) × (p.client.journal ≡ []) × (p.client.outbox ≡ []) × (p.client.in_hand ≡ []) × (p.client.contributions ≡ [])
   none = rule.sends.new (new_is p.client.request fresh)
 
   time_zero : time_of p.client ≡ 0

@@ -3,14 +3,13 @@
 use Rattle.std.specs.Prelude.{◌≡◌, ℕ, zero, suc, not, List, [], ◌∷◌, ◌++◌, replicate, slice_index_or, Option, Some, None}
 use mathlib.Core.Option.{some}
 use lib.ListN.{get_elem?}
-use Rattle.kit_base.specs.declared.history.Line.{Line}
-use Rattle.kit_base.specs.declared.history.Line.TheVariants as line
 use Rattle.kit_base.specs.declared.message.Message.{Message}
 use Rattle.kit_ground.specs.declared.place.Place.{Place}
 use Rattle.kit_ground.specs.Memory.{Memory}
 use Rattle.kit_ground.specs.Rules as rules
 use Rattle.kit_model.specs.declared.journal.JournalEntry.{JournalEntry}
 use Rattle.kit_model.specs.declared.journal.JournalEntry.TheVariants.{Received, Delivered, Granted}
+use Rattle.kit_model.specs.Journals.{lines_told}
 use Rattle.kit_parts.specs.Fronts.{IsFront, Standing, seat_after}
 use Rattle.kit_rules.specs.declared.table.Request.{Request}
 use Rattle.kit_rules.specs.Parts.{federate_at}
@@ -34,13 +33,6 @@ blocks_from j got (Granted t ∷ es) = block j t got ∷ blocks_from j [] es
 abbrev pub blocks_in : ℕ → LbtsView → List Block
 blocks_in j v = blocks_from j [] (entries_of v)
 
--- the lines that a journal has for its deliveries and grants
-abbrev pub lines_of_journal : ℕ → List JournalEntry → List Line
-lines_of_journal j [] = []
-lines_of_journal j (Received m ∷ es) = lines_of_journal j es
-lines_of_journal j (Delivered granted m ∷ es) = line.Deliver granted j m ∷ lines_of_journal j es
-lines_of_journal j (Granted t ∷ es) = line.Grant t j ∷ lines_of_journal j es
-
 -- what the federate has come to, as in the simulation
 abbrev pub seat_of : Request → LbtsView → Seat
 seat_of r v = record { now = time_of v; request = r; state = v.state; got = delivered v }
@@ -49,7 +41,7 @@ seat_of r v = record { now = time_of v; request = r; state = v.state; got = deli
 -- to what the start's rules and these blocks lead to
 pub record Agrees (j : ℕ) (v : LbtsView) : Type 0 where
   pub new : v.request ≡ None → v.state ≡ opening_state (federate_at v.federation j)
-  pub whole : lines_of_journal j (entries_of v) ≡ lines_of (blocks_in j v)
+  pub whole : lines_told j (entries_of v) ≡ lines_of (blocks_in j v)
   pub front : IsFront v.federation j (blocks_in j v)
   pub seat : (r : Request) → v.request ≡ Some r → seat_after v.federation j (blocks_in j v) ≡ seat_of r v
 

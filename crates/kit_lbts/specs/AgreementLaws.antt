@@ -14,6 +14,7 @@ use Rattle.kit_rules.specs.Need.{is_outstanding, need_of}
 use Rattle.kit_rules.specs.Simulation.{block, simulation}
 use Rattle.kit_queue.specs.declared.entry.Entry.{Entry}
 use Rattle.kit_rules.specs.Federation.{IsFederation}
+use Rattle.kit_model.specs.Journals.{lines_told}
 use Rattle.kit_lbts.specs.declared.lbts.Opening.{Opening}
 use Rattle.kit_lbts.specs.declared.view.LbtsView.{LbtsView}
 use Rattle.kit_lbts.specs.Views.{delivered, due_of, entries_of, time_of}
@@ -22,7 +23,7 @@ use Rattle.kit_lbts.specs.Promises.{bound_of}
 use Rattle.kit_lbts.specs.Seats.{most_sends}
 use Rattle.kit_lbts.specs.Progress.{due_in, view_after_grant, lbts_first, view_after, view_after_start}
 use Rattle.kit_lbts.specs.Rule.{lbts_rule}
-use Rattle.kit_lbts.specs.Agreement.{AgreeingRule, Agrees, AllAgree, agreeing_rule, blocks_in, lines_of_journal, progress_at, transit_at, waiting_at}
+use Rattle.kit_lbts.specs.Agreement.{AgreeingRule, Agrees, AllAgree, agreeing_rule, blocks_in, progress_at, transit_at, waiting_at}
 
 -- where all agree, a floor shows a sound moment
 abbrev pub MomentsAreSound : Type 0
@@ -39,7 +40,7 @@ pub record TellsTheSame (v u : LbtsView) : Type 0 where
   pub federation : u.federation ≡ v.federation
   pub state : u.state ≡ v.state
   pub request : u.request ≡ v.request
-  pub lines : (j : ℕ) → lines_of_journal j (entries_of u) ≡ lines_of_journal j (entries_of v)
+  pub lines : (j : ℕ) → lines_told j (entries_of u) ≡ lines_told j (entries_of v)
   pub blocks : (j : ℕ) → blocks_in j u ≡ blocks_in j v
   pub time : time_of u ≡ time_of v
   pub delivered : delivered u ≡ delivered v

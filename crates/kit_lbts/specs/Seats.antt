@@ -128,5 +128,5 @@ pub record Sends (j : ℕ) (p : Place LbtsView) : Type 0 where
   -- it posted nothing in a later colour than its own
   pub coloured : All (λ (x : Posting). x.filled.colour ≤ last_run p.client.contributions) p.client.posted
   pub few : length p.client.state.sends ≤ most_sends
-  -- before its start it has sent, received and been granted nothing
-  pub new : p.client.request ≡ None → (p.client.state.sends ≡ []) × (p.client.posted ≡ []) × (p.client.journal ≡ []) × (p.client.outbox ≡ []) × (p.client.in_hand ≡ [])
+  -- before its start it has sent, received and been granted nothing, and contributed to no round
+  pub new : p.client.request ≡ None → (p.client.state.sends ≡ []) × (p.client.posted ≡ []) × (p.client.journal ≡ []) × (p.client.outbox ≡ []) × (p.client.in_hand ≡ []) × (p.client.contributions ≡ [])

@@ -13,7 +13,7 @@ use Rattle.kit_ground.specs.Rules.{World, stock_of}
 use Rattle.kit_ground.specs.Sets.{Pool}
 use Rattle.kit_ground.specs.Steps.{buffer_of}
 use Rattle.kit_model.specs.Blocks.{everybody}
-use Rattle.kit_model.specs.Journals.{IsLawful, last_grant}
+use Rattle.kit_model.specs.Journals.{IsLawful, last_grant, lines_told}
 use Rattle.kit_parts.specs.Fronts.{IsFront, blocks_of}
 use Rattle.kit_queue.specs.declared.entry.Entry.{Entry}
 use Rattle.kit_queue.specs.Entries.{messages_of}
@@ -30,7 +30,7 @@ use Rattle.kit_rules.specs.Simulation.{after_grants, lines_of, seat_at, world_at
 use Rattle.kit_rules.specs.Step.{opening_state}
 use Rattle.kit_lbts.specs.declared.view.Filled.{Filled}
 use Rattle.kit_lbts.specs.declared.view.LbtsView.{LbtsView}
-use Rattle.kit_lbts.specs.Agreement.{AgreeingRule, agreeing_rule, blocks_in, lines_of_journal, seat_of}
+use Rattle.kit_lbts.specs.Agreement.{AgreeingRule, agreeing_rule, blocks_in, seat_of}
 use Rattle.kit_lbts.specs.AgreementLaws.{IsComplete}
 use Rattle.kit_lbts.specs.Letters.{IsLetter, IsSending, letter_in}
 use Rattle.kit_lbts.specs.Promises.{added_of, bound_of, ledgers_of}
@@ -56,7 +56,7 @@ OfEachTwo A = InEachWorld (λ m places. (i j : ℕ) (p q : Place LbtsView) → g
 
 -- what it delivered and was granted are whole blocks, the first of its part
 abbrev pub BlocksAreAFront : Type 0
-BlocksAreAFront = OfEachFederate (λ m j p. (lines_of_journal j (entries_of p.client) ≡ lines_of (blocks_in j p.client)) × IsFront p.client.federation j (blocks_in j p.client))
+BlocksAreAFront = OfEachFederate (λ m j p. (lines_told j (entries_of p.client) ≡ lines_of (blocks_in j p.client)) × IsFront p.client.federation j (blocks_in j p.client))
 
 -- what it delivered it had received
 abbrev pub DeliveredWasReceived : Type 0

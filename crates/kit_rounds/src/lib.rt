@@ -1,5 +1,5 @@
-//! Mattern's counts of copies by their colours, and the rounds of a reduction, over what each federate has
-//! written down: laws alone, with no floor and no federation.
+//! Mattern's counts of copies by their colours, and the rounds of a reduction, over what each
+//! federate has written down: laws alone, with no floor and no federation.
 #![tactic(auto)]
 
 mod contribution;

@@ -12,7 +12,7 @@ invariant_of-result g c =
     let n = c.args.federates in
     let b = c.args.buffers in
     let is : new_floor first about n b ≡ record { opening = c.again.result.value; buffers = b; words = c.in_ok-words.words.items; places = c.first_places-places.result.value; seated = 0; steps = c.no_steps.result.value } =
-    (λ i. record { opening = sym c.again.ensures i; buffers = b; words = sym c.in_ok-words.ensures i; places = sym c.first_places-places.ensures i; seated = 0; steps = sym c.no_steps.ensures i }) in (
+    (λ i. record { opening = sym c.again.ensures i; buffers = b; words = sym c.in_ok-words.ensures.all i; places = sym c.first_places-places.ensures i; seated = 0; steps = sym c.no_steps.ensures i }) in (
       subst (RulesHold rule) is (ruled_opened rule first about n b c.requires.federates.0 c.requires.federates.1 c.requires.buffers.1 c.requires.rule),
       sym (ap length c.first_places-places.ensures ∙ length_places_from (first about) n b 0 n),
     )
