@@ -1,13 +1,14 @@
--- How often each federate stands in a list of places, and that as many places as federates, no two of one federate, are of all federates.
-use Rattle.std.proofs.Common.{◌≡◌, ◌≢◌, ℕ, zero, suc, ◌+◌, ◌<◌, ◌≤◌, ◌==◌, Bool, true, false, if◌then◌else◌, List, [], ◌∷◌, length, refl, sym, ap, ◌∙◌, subst, arith, eqb-true, eq-eqb, ne_eqb}
+-- How often each federate stands in a list of places, and that as many federates' places as federates, no two of one, are of all federates.
+use Rattle.std.proofs.Common.{◌≡◌, ◌≢◌, ℕ, zero, suc, ◌+◌, ◌<◌, ◌≤◌, ◌==◌, Bool, true, false, if◌then◌else◌, List, [], ◌∷◌, length, refl, sym, ap, ◌∙◌, subst, arith, eqb-true, eq-eqb, ne_eqb, lt_of_not-le}
+use Rattle.std.proofs.lemmas.Bool.{le-ltb, lt-ltb}
 use mathlib.Core.Logic.{dite}
-use native.Mathlib.Decide.{ℕ_discrete}
+use native.Mathlib.Decide.{dec_le, ℕ_discrete}
 use lib.ListN.{get_elem?}
 use Rattle.kit_ground.specs.declared.place.Place.{Place}
 use Rattle.kit_ground.specs.Sets.{sum_to}
-use Rattle.kit_ground.proofs.Lists.{at_inside}
-use Rattle.kit_ground.proofs.Sums.{sum_at_most, sum_change, sum_zero}
+use Rattle.kit_ground.proofs.Sums.{sum_at_most, sum_change, sum_same, sum_zero}
 use Rattle.kit_pool.specs.Seating.{DeskIsOwned}
+use Rattle.kit_floor.specs.Accounts.{count_of_federates}
 
 -- a sum that is as great as it can be
 pub sum_full : (f : ℕ → ℕ) (n : ℕ) → ((j : ℕ) → j < n → f j ≤ 1) → sum_to f n ≡ n → (j : ℕ) → j < n → f j ≡ 1
@@ -55,17 +56,21 @@ module _ {V : Type 0} where
         (λ same. let e = amount_here k p ps same in let short : length ps ≤ length ps = omega arith in let z = none_behind k (length ps) ps (ap owner (sym same) ∙ h.1) short h.2 in omega arith)
         (λ other. let e = amount_else k p ps other in let i = amount_once k ps h.2 in omega arith)
 
-    -- all together are as many as there are places
-    pub amount_all : (desk : List (Place V)) → DeskIsOwned all owner seat desk → sum_to (λ k. amount k desk) (length all) ≡ length desk
-    amount_all [] h = sum_zero (λ k. amount k []) (length all) (λ j lj. amount_none j [] refl)
-    amount_all (p ∷ ps) h =
-        let m : ℕ = p.own.number in
-        let inside : m < length all = at_inside all m p h.0 in
-        let changes = sum_change (λ k. amount k ps) (λ k. amount k (p ∷ ps)) (length all) m inside (λ j lj other. sym (amount_else j p ps (λ e. other (sym e)))) in
+    -- all together are as many as the federates' places
+    pub amount_all : (n : ℕ) (desk : List (Place V)) → DeskIsOwned all owner seat desk → sum_to (λ k. amount k desk) n ≡ count_of_federates n desk
+    amount_all n [] h = sum_zero (λ k. amount k []) n (λ j lj. amount_none j [] refl)
+    amount_all n (p ∷ ps) h = dite (dec_le n p.own.number)
+        (λ guest. let one : count_of_federates n (p ∷ ps) ≡ 0 + count_of_federates n ps = ap (λ (t : Bool). (if t then 1 else 0) + count_of_federates n ps) (le-ltb p.own.number n guest) in
+        let same = sum_same (λ k. amount k (p ∷ ps)) (λ k. amount k ps) n (λ j lj. amount_else j p ps (λ e. absurd (omega arith))) in
+        let rest = amount_all n ps h.2 in omega arith)
+        (λ other. let m : ℕ = p.own.number in
+        let inside : m < n = lt_of_not-le other in
+        let one : count_of_federates n (p ∷ ps) ≡ 1 + count_of_federates n ps = ap (λ (t : Bool). (if t then 1 else 0) + count_of_federates n ps) (lt-ltb p.own.number n inside) in
+        let changes = sum_change (λ k. amount k ps) (λ k. amount k (p ∷ ps)) n m inside (λ j lj apart. sym (amount_else j p ps (λ e. apart (sym e)))) in
         let here = amount_here m p ps refl in
-        let rest = amount_all ps h.2 in
-        omega arith
+        let rest = amount_all n ps h.2 in
+        omega arith)
 
     -- so where they are as many as the federates, each federate is among them
-    pub amount_each : (desk : List (Place V)) → DeskIsOwned all owner seat desk → length desk ≡ length all → (k : ℕ) → k < length all → amount k desk ≡ 1
-    amount_each desk h many = sum_full (λ k. amount k desk) (length all) (λ j lj. amount_once j desk h) (amount_all desk h ∙ many)
+    pub amount_each : (n : ℕ) (desk : List (Place V)) → DeskIsOwned all owner seat desk → count_of_federates n desk ≡ n → (k : ℕ) → k < n → amount k desk ≡ 1
+    amount_each n desk h many = sum_full (λ k. amount k desk) n (λ j lj. amount_once j desk h) (amount_all n desk h ∙ many)

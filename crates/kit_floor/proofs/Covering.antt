@@ -4,10 +4,10 @@ use mathlib.Core.Logic.{dite}
 use mathlib.Core.Option.{some, some-injective}
 use native.Mathlib.Decide.{ℕ_discrete}
 use lib.ListN.{get_elem?}
-use Rattle.atomic_table.proofs.Lists.{drop_at}
+use Rattle.atomic_table.proofs.Lists.{at_longer, drop_at}
 use Rattle.kit_ground.specs.declared.place.Place.{Place}
 use Rattle.kit_pool.specs.Seating.{DeskIsOwned}
-use Rattle.kit_floor.specs.Accounts.{places_in_order, places_in_order_from, place_number}
+use Rattle.kit_floor.specs.Accounts.{count_of_federates, places_in_order, places_in_order_from, place_number}
 use Rattle.kit_floor.proofs.Counting.{amount, amount_each, amount_else, amount_none}
 
 there : {A : Type 0} (l : List A) (i : ℕ) → i < length l → (a : A) × (get_elem? l i ≡ some a)
@@ -30,14 +30,18 @@ module _ {V : Type 0} (all : List (Place V)) (owner : ℕ → ℕ × ℕ) (seat 
       (λ other. ap (λ (t : Bool). if t then p ∷ [] else place_number k ps) (ne_eqb p.own.number k other)
       ∙ place_is k q ps h.2 (sym (amount_else k p ps other) ∙ one) at)
 
-  from_here : (desk : List (Place V)) → DeskIsOwned all owner seat desk → length desk ≡ length all → (m k : ℕ) → k + m ≡ length all → places_in_order_from k m desk ≡ drop k all
-  from_here desk h many zero k e = sym (dropped all k (omega arith))
-  from_here desk h many (suc m) k e =
-      let t = there all k (omega arith) in
-      let next : k + 1 ≡ suc k = omega arith in
-      let rest = from_here desk h many m (k + 1) (omega arith) in
-      ap (λ l. l ++ places_in_order_from (k + 1) m desk) (place_is k t.0 desk h (amount_each all owner seat desk h many k (omega arith)) t.1)
-      ∙ (ap (λ l. t.0 ∷ l) (rest ∙ ap (λ (i : ℕ). drop i all) next) ∙ sym (drop_at all k t.0 t.1))
+  -- the federates' places, of whom there are as many as places of theirs
+  module _ (federates guests : List (Place V)) (whole : all ≡ federates ++ guests) where
+    from_here : (desk : List (Place V)) → DeskIsOwned all owner seat desk → count_of_federates (length federates) desk ≡ length federates → (m k : ℕ) → k + m ≡ length federates
+        → places_in_order_from k m desk ≡ drop k federates
+    from_here desk h many zero k e = sym (dropped federates k (omega arith))
+    from_here desk h many (suc m) k e =
+        let t = there federates k (omega arith) in
+        let at : get_elem? all k ≡ some t.0 = ap (λ l. get_elem? l k) whole ∙ at_longer federates guests k t.0 t.1 in
+        let next : k + 1 ≡ suc k = omega arith in
+        let rest = from_here desk h many m (k + 1) (omega arith) in
+        ap (λ l. l ++ places_in_order_from (k + 1) m desk) (place_is k t.0 desk h (amount_each all owner seat (length federates) desk h many k (omega arith)) at)
+        ∙ (ap (λ l. t.0 ∷ l) (rest ∙ ap (λ (i : ℕ). drop i federates) next) ∙ sym (drop_at federates k t.0 t.1))
 
-  pub all_in_order : (desk : List (Place V)) → DeskIsOwned all owner seat desk → length desk ≡ length all → places_in_order (length all) desk ≡ all
-  all_in_order desk h many = let start : 0 + length all ≡ length all = omega arith in from_here desk h many (length all) 0 start
+    pub all_in_order : (desk : List (Place V)) → DeskIsOwned all owner seat desk → count_of_federates (length federates) desk ≡ length federates → places_in_order (length federates) desk ≡ federates
+    all_in_order desk h many = let start : 0 + length federates ≡ length federates = omega arith in from_here desk h many (length federates) 0 start

@@ -1,5 +1,5 @@
 -- What a floor came to.
-use Rattle.std.specs.Prelude.{ℕ, zero, suc, ◌+◌, ◌==◌, if◌then◌else◌, List, [], ◌∷◌, ◌++◌, length}
+use Rattle.std.specs.Prelude.{ℕ, zero, suc, ◌+◌, ◌==◌, nat_lt, if◌then◌else◌, List, [], ◌∷◌, ◌++◌, length}
 use Rattle.kit_ground.specs.declared.place.Place.{Place}
 use Rattle.kit_ground.specs.Layout.{memory_of}
 use Rattle.kit_ground.specs.Memory.{Memory}
@@ -13,6 +13,11 @@ pub record Account (V : Type 0) : Type 0 where
 module _ {V : Type 0} where
   abbrev pub memory_at_end : Account V → Memory
   memory_at_end a = memory_of (length a.places) a.buffers a.words
+
+  -- how many of these places are those of federates, of whom there are n; the others are guests'
+  abbrev pub count_of_federates : ℕ → List (Place V) → ℕ
+  count_of_federates n [] = 0
+  count_of_federates n (p ∷ ps) = (if nat_lt p.own.number n then 1 else 0) + count_of_federates n ps
 
   -- the first place of the federate k, alone
   abbrev pub place_number : ℕ → List (Place V) → List (Place V)

@@ -2,3 +2,4 @@ pub mod Standing
 pub mod Joining
 pub mod Accounts
 pub mod FloorViews
+pub mod GuestViews

@@ -1,10 +1,12 @@
 //! A floor that no thread shares any more.
-ghost use Rattle.std.specs.Prelude.{◌≡◌, ℕ, ◌<◌, length};
+ghost use Rattle.std.specs.Prelude.{◌≡◌, ℕ, ◌<◌, ◌≤◌, length};
 ghost use mathlib.Core.Option.{some};
 ghost use lib.ListN.{get_elem?};
 ghost use Rattle.kit_ground.specs.declared.address.Address.TheVariants.{Register};
 ghost use Rattle.kit_ground.specs.Words.{RuledWords};
-ghost use Rattle.kit_floor.specs.Accounts.{memory_at_end};
+ghost use Rattle.kit_pool.specs.Dealing.{IsLaidFor, IsOf};
+ghost use Rattle.kit_pool.specs.SeatViews.{desk_of};
+ghost use Rattle.kit_floor.specs.Accounts.{count_of_federates, memory_at_end};
 
 use crate::Whole;
 use atomic_table::Closed;
@@ -55,20 +57,21 @@ impl<P: Protocol> Reads<Ending<P>, LinkedList<Place<P::View>>> for AllPlaces<P> 
 }
 
 impl<P: Protocol> FloorAccount<P> {
-    /// Of a table that a seat has the places of all federates of.
+    /// Of a table that a seat has the places of all federates of, and those of guests.
     pub(crate) fn of(
         table: SeatingTable<P, Whole>,
         all: TableSeat<P>,
         federates: u8,
         buffers: u16,
     ) -> FloorAccount<P>
-        requires of_it { all.seat.table_id ≡ table.shared.table_id }
-        requires laid { (table.shared.key.federates ≡ federates) × (table.shared.key.buffers ≡ buffers) }
+        requires of_it { IsOf table.shared all }
+        requires laid { IsLaidFor table.shared federates buffers }
         requires slots { table.shared.table_id.slots ≡ 0 }
-        requires places { length all.seat.me.0 ≡ federates }
+        requires places { count_of_federates federates (desk_of all) ≡ federates }
         ensures buffers { result.buffers ≡ buffers }
         ensures many { length result.places ≡ federates }
-        ensures each { (k : ℕ) (p : _) → get_elem? all.seat.me.0 k ≡ some p → get_elem? result.places p.own.number ≡ some p }
+        ensures each { (k : ℕ) (p : _) → get_elem? (desk_of all) k ≡ some p → p.own.number < federates → get_elem? result.places p.own.number ≡ some p }
+        ensures sees { (k : ℕ) (p : _) → get_elem? (desk_of all) k ≡ some p → federates ≤ p.own.number → P.rule.sees (memory_at_end result) result.places p }
     {
         let ending = Ending { all, federates };
         let places = Known::of::<Ending<P>, AllPlaces<P>>(&ending);

@@ -3,11 +3,12 @@
 
 mod account;
 mod floor;
+mod guests;
 mod stand;
 
 pub use account::FloorAccount;
 pub use floor::{TableFloor, Whole};
-pub use kit_pool::TableSeat as FloorSeat;
+pub use kit_pool::{GuestSeat, TableSeat as FloorSeat};
 pub use stand::FloorGround;
 
 #[cfg(test)]

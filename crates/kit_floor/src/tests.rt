@@ -1,6 +1,7 @@
 ghost use Rattle.std.specs.Prelude.{◌≡◌, ◌≤◌, IfOk};
 ghost use Rattle.kit_pool.specs.Pools.{no_client};
 ghost use Rattle.kit_floor.specs.FloorViews.{IsNewSeatOf, buffers_of, federates_of};
+ghost use Rattle.kit_floor.specs.GuestViews.{IsNewGuestOf};
 
 use super::*;
 use kit_ground::{Bare, Ground, Reg, Unmoved};
@@ -44,6 +45,11 @@ fn a_buffer_is_free_again_once_it_was_released(rt: HostRuntime) -> Result<(), Fa
     assert_eq!(rt; second.read_part::<Unmoved>(0, 0, 1), 25_769_803_777);
     second.release::<Unmoved>(0, 0);
     assert!(rt; first.look_free::<Unmoved>(0));
+    let mut seats = Vec::new(rt.alloc());
+    seats.push(first.leave())?;
+    seats.push(second.leave())?;
+    let account = floor.close(seats);
+    assert_eq!(rt; account.clock(0), 0);
     Ok(())
 }
 
@@ -83,6 +89,52 @@ fn all_see_what_one_shows(rt: HostRuntime) -> Result<(), Fail> {
     seats.push(second.leave())?;
     seats.push(first.leave())?;
     let account = floor.close(seats);
+    assert_eq!(rt; account.clock(0), 7);
+    Ok(())
+}
+
+/// A new floor of one federate with a buffer, its seat, and two guests.
+fn watched_floor(
+    alloc: Global,
+) -> Result<
+    (
+        TableFloor<Bare>,
+        FloorSeat<Bare>,
+        GuestSeat<Bare>,
+        GuestSeat<Bare>,
+    ),
+    AllocError,
+>
+    ensures federates { IfOk result (λ r. federates_of r.0 ≡ 1) }
+    ensures seat { IfOk result (λ r. IsNewSeatOf (λ _. no_client) r.0 0 r.1) }
+    ensures first { IfOk result (λ r. IsNewGuestOf (λ _. no_client) r.0 1 r.2) }
+    ensures second { IfOk result (λ r. IsNewGuestOf (λ _. no_client) r.0 2 r.3) }
+{
+    let about = Known::new(&());
+    let (floor, mut seats, mut guests) = TableFloor::<Bare>::lay_watched(alloc, 1, 1, 2, &about)?;
+    let (Some(seat), Some(second), Some(first)) = (seats.pop(), guests.pop(), guests.pop()) else {
+        unreachable!()
+    };
+    Ok((floor, seat, first, second))
+}
+
+#[test]
+fn guests_see_what_a_federate_shows(rt: HostRuntime) -> Result<(), Fail> {
+    let (floor, seat, mut first, mut second) = watched_floor(rt.alloc())?;
+    let mut ground = floor.stand(seat);
+    assert_eq!(rt; floor.clock::<Unmoved>(&mut first, 0), 0);
+    let clock = Reg { owner: 0, slot: 12 };
+    ground.publish::<Unmoved>(clock, 7);
+    assert_eq!(rt; floor.clock::<Unmoved>(&mut second, 0), 7);
+    assert!(rt; !floor.stopped::<Unmoved>(&mut first));
+    ground.stop::<Unmoved>();
+    assert!(rt; floor.stopped::<Unmoved>(&mut first));
+    floor.join_guests(&mut first, second);
+    let mut seats = Vec::new(rt.alloc());
+    seats.push(ground.leave())?;
+    let mut guests = Vec::new(rt.alloc());
+    guests.push(first)?;
+    let account = floor.close_watched(seats, guests);
     assert_eq!(rt; account.clock(0), 7);
     Ok(())
 }

@@ -1,10 +1,9 @@
 -- A call of a seat, from what is asked of it: the seat's own place is p, and the step is on the address A, which the call names as a.
-use Rattle.std.proofs.Common.{◌≡◌, ℕ, ◌<◌, true, List, sym, ap, ◌∙◌, subst, arith}
+use Rattle.std.proofs.Common.{◌≡◌, ℕ, true, List, sym, ap, ◌∙◌, subst, arith}
 use Rattle.kit_ground.specs.declared.address.Address.{Address}
 use Rattle.kit_ground.specs.declared.place.Deed.{Deed}
 use Rattle.kit_ground.specs.declared.place.Place.{Place}
 use Rattle.kit_ground.specs.Layout.{is_there}
-use Rattle.kit_ground.specs.Memory.{Memory}
 use Rattle.kit_ground.specs.Rules.{Rule, WasFound}
 use Rattle.kit_ground.specs.Steps.{Allowed, place_after, address_of}
 use Rattle.kit_ground.proofs.WordSteps.{own_there}

@@ -32,6 +32,7 @@ module _ {V : Type 0} where
   join_at : (rule : Rule V) (n b : ℕ) (front ws : List ℕ) (views : List (List (Place V))) (id other : ℕ) (d e : List (Place V)) → TableHolds rule n b front ws views → get_elem? views id ≡ some d → other ≢ id
       → get_elem? (set views id (d ++ e)) other ≡ some e → TableHolds rule n b front ws (set (set views id (d ++ e)) other [])
   join_at rule n b front ws views id other d e r at apart there =
+      let all : List (Place V) = r.federates ++ r.guests in
       let now : ℕ → ℕ × ℕ = moved r.owner other id (length e) in
       let vs : List (List (Place V)) = set views id (d ++ e) in
       let theirs : get_elem? views other ≡ some e = sym (set_else views id other (d ++ e) apart) ∙ there in
@@ -43,16 +44,18 @@ module _ {V : Type 0} where
       let came : (k x : ℕ) → r.owner k ≡ (other, x) → now k ≡ (id, x) =
       λ k x q. moved_other r.owner other id (length e) k (seat_of k other x q) ∙ ap (λ (y : ℕ × ℕ). (id, y.1)) q in
       record {
-        all = r.all;
+        federates = r.federates;
+        guests = r.guests;
         owner = now;
         many = r.many;
         ruled = r.ruled;
+        watched = r.watched;
         held = λ seat desk q. ⊎_elim
-            (λ (t : (seat ≡ other) × ([] ≡ desk)). subst (λ (x : List (Place V)). DeskIsOwned r.all now seat x) t.1 tt)
+            (λ (t : (seat ≡ other) × ([] ≡ desk)). subst (λ (x : List (Place V)). DeskIsOwned all now seat x) t.1 tt)
             (λ (t : (seat ≢ other) × (get_elem? vs seat ≡ some desk)). ⊎_elim
-            (λ (u : (seat ≡ id) × ((d ++ e) ≡ desk)). subst (λ (x : ℕ × List (Place V)). DeskIsOwned r.all now x.0 x.1) (λ i. (sym u.0 i, u.1 i))
-            (held_before r.all r.owner now id id d e (λ k x lt. mine k x) (r.held id d at) (held_with r.all r.owner now other id e (λ k x lt. came k x) (r.held other e theirs))))
-            (λ (u : (seat ≢ id) × (get_elem? views seat ≡ some desk)). held_with r.all r.owner now seat seat desk (λ k x lt q'. keep k seat x q' t.0 u.0) (r.held seat desk u.1))
+            (λ (u : (seat ≡ id) × ((d ++ e) ≡ desk)). subst (λ (x : ℕ × List (Place V)). DeskIsOwned all now x.0 x.1) (λ i. (sym u.0 i, u.1 i))
+            (held_before all r.owner now id id d e (λ k x lt. mine k x) (r.held id d at) (held_with all r.owner now other id e (λ k x lt. came k x) (r.held other e theirs))))
+            (λ (u : (seat ≢ id) × (get_elem? views seat ≡ some desk)). held_with all r.owner now seat seat desk (λ k x lt q'. keep k seat x q' t.0 u.0) (r.held seat desk u.1))
             (at_set views id seat (d ++ e) desk t.1))
             (at_set vs other seat [] desk q);
       }

@@ -1,8 +1,11 @@
 pub mod Behind
 pub mod Holding
 pub mod SeatSteps
+pub mod GuestSteps
 pub mod Owning
 pub mod Stepping
+pub mod GuestStepping
+pub mod Deals
 pub mod Splitting
 pub mod Joining
 pub mod SeatLists

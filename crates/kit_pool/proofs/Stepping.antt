@@ -1,5 +1,5 @@
 -- What a seat asks of its table at a step, and what it is told.
-use Rattle.std.proofs.Common.{◌≡◌, ℕ, ◌+◌, ◌<◌, true, List, ◌∷◌, length, sym, ap, ◌∙◌, subst, arith}
+use Rattle.std.proofs.Common.{◌≡◌, ℕ, ◌+◌, ◌<◌, true, List, ◌∷◌, length, sym, subst, arith}
 use Rattle.atomic_table.specs.Seated.{TableId}
 use Rattle.atomic_table.specs.Table.{State, Me, Allows}
 use Rattle.kit_ground.specs.declared.address.Address.{Address}
@@ -10,7 +10,7 @@ use Rattle.kit_ground.specs.Rules.{Rule, WasFound}
 use Rattle.kit_ground.specs.Steps.{place_after, address_of}
 use Rattle.kit_ground.proofs.Layouts.{on_floor}
 use Rattle.kit_ground.proofs.WordSteps.{own_there}
-use Rattle.kit_pool.specs.Seating.{FindingIsTold, HoldsOfOwnPlace, Plans, TableHolds, StoreIsTold, others_of, place_in}
+use Rattle.kit_pool.specs.Seating.{FindingIsTold, Plans, TableHolds, StoreIsTold, others_of, place_in}
 use Rattle.kit_pool.specs.Seats.{IsOwn, IsSized, IsWithin}
 use Rattle.kit_pool.proofs.Owning.{desk_is, on_own, own_numbers}
 use Rattle.kit_pool.proofs.SeatSteps.{finds, stores}
@@ -38,13 +38,17 @@ module _ {V : Type 0} (rule : Rule V) (first : ℕ → V) where
         let all = sized.words in
         omega arith
 
-    pub may_find : (slots id : ℕ) (f : ℕ → ℕ) (deed : ℕ → Deed) → Plans rule next mine a f deed
-        → Allows (λ (s : State S Ps). TableHolds rule kn kb (front kn) s.words s.views) slots id me i f (λ x after. FindingIsTold rule next deed me x after)
-    may_find slots id f deed plan = finds rule kn kb (front kn) next slots id me mine (others_of me.0) (desk_is first me.0 own.there) i a place' f deed plan
+    -- it is that of a federate
+    inside : IsWithin number n b → mine.own.number < kn
+    inside within = let is = (own_numbers first number n b me.0 own).0 in let below = within.inside in let many = laid.0 in omega arith
 
-    pub may_store : (slots id v : ℕ) (deed : ℕ → Deed) → Plans rule next mine a (λ _. v) (λ _. deed v)
+    pub may_find : IsWithin number n b → (slots id : ℕ) (f : ℕ → ℕ) (deed : ℕ → Deed) → Plans rule next mine a f deed
+        → Allows (λ (s : State S Ps). TableHolds rule kn kb (front kn) s.words s.views) slots id me i f (λ x after. FindingIsTold rule next deed me x after)
+    may_find within slots id f deed plan = finds rule kn kb (front kn) next slots id me mine (others_of me.0) (desk_is first me.0 own.there) (inside within) i a place' f deed plan
+
+    pub may_store : IsWithin number n b → (slots id v : ℕ) (deed : ℕ → Deed) → Plans rule next mine a (λ _. v) (λ _. deed v)
         → Allows (λ (s : State S Ps). TableHolds rule kn kb (front kn) s.words s.views) slots id me i (λ _. v) (λ _. StoreIsTold rule next deed me v)
-    may_store slots id v deed plan = stores rule kn kb (front kn) next slots id me mine (others_of me.0) (desk_is first me.0 own.there) i a place' v deed plan
+    may_store within slots id v deed plan = stores rule kn kb (front kn) next slots id me mine (others_of me.0) (desk_is first me.0 own.there) (inside within) i a place' v deed plan
 
     module _ (after : Me S Ps) (deed : ℕ → Deed) (x : ℕ) where
       abbrev pub Told_so : Type 0 → Type 0

@@ -1,7 +1,10 @@
 pub mod Seating
 pub mod Seats
 pub mod Pools
+pub mod Watching
 pub mod Doing
 pub mod Laws
 pub mod SeatViews
+pub mod GuestViews
+pub mod Dealing
 pub mod PoolViews

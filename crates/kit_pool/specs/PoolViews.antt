@@ -1,5 +1,5 @@
 -- What contracts see of a pool, and of the seats of pools.
-use Rattle.std.specs.Prelude.{◌≡◌, ℕ}
+use Rattle.std.specs.Prelude.{ℕ}
 use Rattle.kit_ground.specs.declared.ground.Protocol.{Ghosts}
 use Rattle.kit_ground.specs.declared.place.Place.{Place}
 use Rattle.kit_pool.specs.declared.pool.Pool.{Pool}

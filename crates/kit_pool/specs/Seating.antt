@@ -1,29 +1,40 @@
--- The rule of a table whose seats are those of federates, and what its steps tell. The view of a seat is the list of the places that it has:
--- its own first, and then those of the seats that it took in.
-use Rattle.std.specs.Prelude.{◌≡◌, ℕ, ◌==◌, List, [], ◌∷◌, ◌++◌, length, slice_index_or}
+-- The rule of a table whose seats are those of federates and of guests, and what its steps tell. The view of a seat is the list of the places
+-- that it has: its own first, and then those of the seats that it took in.
+use Rattle.std.specs.Prelude.{◌≡◌, ℕ, List, [], ◌∷◌, ◌++◌, length, slice_index_or}
 use mathlib.Core.Option.{some}
 use lib.ListN.{get_elem?}
 use Rattle.atomic_table.specs.Table.{Me}
 use Rattle.kit_ground.specs.declared.address.Address.{Address}
 use Rattle.kit_ground.specs.declared.place.Deed.{Deed}
 use Rattle.kit_ground.specs.declared.place.Place.{Place}
+use Rattle.kit_ground.specs.Guests.{GuestWorld}
+use Rattle.kit_ground.specs.Layout.{memory_of}
+use Rattle.kit_ground.specs.Memory.{Memory}
 use Rattle.kit_ground.specs.Rules.{Keeps, Rule, WasFound, own_at_first}
 use Rattle.kit_ground.specs.Steps.{Allowed, place_after, address_of, becomes}
 use Rattle.kit_ground.specs.Words.{RuledWords}
 
 module _ {V : Type 0} where
-  -- each place that this seat has is that of its federate, and lies with this seat alone, with so many behind it
+  -- each place that this seat has is the one of its number among all, and lies with this seat alone, with so many behind it
   abbrev pub DeskIsOwned : List (Place V) → (ℕ → ℕ × ℕ) → ℕ → List (Place V) → Type 0
   DeskIsOwned all owner seat [] = Unit {0}
   DeskIsOwned all owner seat (p ∷ ps) = (get_elem? all p.own.number ≡ some p) × (owner p.own.number ≡ (seat, length ps)) × DeskIsOwned all owner seat ps
 
-  -- both rules hold of n federates' places and of the words, which stand behind those in front
+  -- a guest's place is in a world with the federates' places
+  pub record IsGuestBeside (rule : Rule V) (b : ℕ) (m : Memory) (federates : List (Place V)) (g : Place V) : Type 0 where
+    pub buffers : g.own.buffers ≡ b
+    pub world : GuestWorld rule g m federates
+
+  -- both rules hold of n federates' places and of the words, which stand behind those in front; and the rule of guests holds of each guest's
+  -- place. The guests are listed after the federates.
   pub record TableHolds (rule : Rule V) (n b : ℕ) (front words : List ℕ) (desks : List (List (Place V))) : Type 0 where
-    pub all : List (Place V)
+    pub federates : List (Place V)
+    pub guests : List (Place V)
     pub owner : ℕ → ℕ × ℕ
-    pub many : length all ≡ n
-    pub ruled : RuledWords rule b (front ++ words) all
-    pub held : (seat : ℕ) (desk : List (Place V)) → get_elem? desks seat ≡ some desk → DeskIsOwned all owner seat desk
+    pub many : length federates ≡ n
+    pub ruled : RuledWords rule b (front ++ words) federates
+    pub watched : (k : ℕ) (g : Place V) → get_elem? guests k ≡ some g → IsGuestBeside rule b (memory_of (length federates) b (front ++ words)) federates g
+    pub held : (seat : ℕ) (desk : List (Place V)) → get_elem? desks seat ≡ some desk → DeskIsOwned (federates ++ guests) owner seat desk
 
   -- a seat's own place, alone, and the others
   abbrev pub own_of : List (Place V) → List (Place V)

@@ -5,7 +5,6 @@ use lib.ListN.{get_elem?}
 use Rattle.atomic_table.specs.Seated.{TableId}
 use Rattle.kit_ground.specs.declared.place.Place.{Place}
 use Rattle.kit_ground.specs.Layout.{size_of}
-use Rattle.kit_ground.specs.Rules.{own_at_first}
 
 -- a table of n federates with b buffers each, which has all words of a floor but for those in front
 pub record IsSized (front : List ℕ) (n b : ℕ) (table : TableId) : Type 0 where

@@ -3,15 +3,17 @@
 #![tactic(auto)]
 
 mod dealing;
+mod guest;
 mod laws;
 mod pool;
 mod rule;
 mod seat;
 
-pub use dealing::{gather, lay};
+pub use dealing::{gather, gather_guests, lay};
+pub use guest::GuestSeat;
 pub use laws::seats_keep_the_rules;
 pub use pool::{Pool, PoolSeat, Registers};
-pub use rule::{Finds, Front, Laid, OwnFirst, Plan, SeatingRule, SeatingTable, Stores};
+pub use rule::{Finds, Front, Laid, OwnFirst, Plan, SeatingRule, SeatingTable, Sees, Stores};
 pub use seat::{TableSeat, readers};
 
 #[cfg(test)]

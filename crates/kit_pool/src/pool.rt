@@ -54,11 +54,12 @@ impl Pool {
         ensures seats { IfOk result (λ r. (k : ℕ) (s : _) → get_elem? r.1.items k ≡ some s → IsNewSeatOf r.0 k s) }
     {
         let words = zeros(alloc, federates, buffers)?;
-        let (table, seats) = lay::<Bare, Registers>(
+        let (table, seats, _) = lay::<Bare, Registers>(
             alloc,
             words.as_slice(),
             federates,
             buffers,
+            0,
             &Known::new(&()),
         )?;
         Ok((Pool { table }, seats))

@@ -1,4 +1,4 @@
-//! The rule of a table whose seats are those of federates, and what its steps tell.
+//! The rule of a table whose seats are those of federates and of guests, and what its steps tell.
 use atomic_table::{Join, Play, Split, Table, TableRule};
 use kit_ground::{Event, Place, Protocol};
 use kit_known::Known;
@@ -11,6 +11,7 @@ use std::marker::{Brand, PhantomData};
 pub struct Laid<O> {
     pub federates: u8,
     pub buffers: u16,
+    pub guests: u8,
     pub opening: Known<O>,
 }
 
@@ -22,19 +23,20 @@ pub trait Front {
     ghost front: { ℕ → List ℕ };
 }
 
-/// The floor's own rule and the client's.
+/// The floor's own rule and the client's, and what the client asks of each guest.
 pub struct SeatingRule<P, F> {
     of: PhantomData<(P, F)>,
 }
 
 impl<P: Protocol, F: Front> TableRule<(), LinkedList<Place<P::View>>, Laid<P::Opening>>
     for SeatingRule<P, F> {
-    ghost use Rattle.kit_ground.specs.Rules.{places_at_first};
+    ghost use Rattle.std.specs.Prelude.{◌+◌};
+    ghost use Rattle.kit_ground.specs.Rules.{places_from};
     ghost use Rattle.kit_pool.specs.Seating.{TableHolds};
 
     ghost holds = { λ k s. TableHolds P.rule k.federates k.buffers (F.front k.federates) s.words s.views };
 
-    ghost first = { λ k. places_at_first (P.first k.opening.value) k.federates k.buffers };
+    ghost first = { λ k. places_from (P.first k.opening.value) k.federates k.buffers 0 (k.federates + k.guests) };
 }
 
 /// A table under both rules, whose words stand behind those in front.
@@ -70,6 +72,18 @@ impl<P: Protocol, E: Event<P::View>, D: Plan> Play<(), LinkedList<Place<P::View>
     ghost use Rattle.kit_pool.specs.Seating.{FindingIsTold};
 
     ghost then = { λ s me n after. FindingIsTold P.rule E.next D.deed me n after };
+}
+
+/// A guest's look, which tells the word that it found.
+pub struct Sees<P, E, D> {
+    of: PhantomData<(P, E, D)>,
+}
+
+impl<P: Protocol, E: Event<P::View>, D: Plan> Play<(), LinkedList<Place<P::View>>>
+    for Sees<P, E, D> {
+    ghost use Rattle.kit_pool.specs.Watching.{LookIsTold};
+
+    ghost then = { λ s me n after. LookIsTold P.rule E.next D.deed me n after };
 }
 
 /// A store, which does not tell it.

@@ -3,6 +3,7 @@ ghost use Rattle.std.specs.Prelude.{◌≡◌, []};
 ghost use Rattle.std.specs.Int.Count.{ones};
 ghost use Rattle.kit_pool.specs.Seats.{IsOwn, IsWithin};
 
+use crate::guest::GuestSeat;
 use crate::rule::{Finds, Front, OwnFirst, Plan, SeatingTable, Stores};
 use atomic_table::Seat;
 use kit_ground::{Address, Deed, Event, Place, Protocol};
@@ -28,10 +29,12 @@ pub struct TableSeat<P: Protocol> {
 }
 
 impl<P: Protocol> TableSeat<P> {
-    ghost use Rattle.std.specs.Prelude.{◌≡◌, ℕ, ◌+◌, ◌-◌, ◌<◌, ◌%◌, ◌^◌, [], ◌∷◌, ◌++◌, bit_or, length};
+    ghost use Rattle.std.specs.Prelude.{◌≡◌, ℕ, ◌+◌, ◌-◌, ◌<◌, ◌≤◌, ◌%◌, ◌^◌, [], ◌∷◌, ◌++◌, bit_or, length};
     ghost use Rattle.kit_ground.specs.Layout.{index_of};
-    ghost use Rattle.kit_ground.specs.Rules.{WasFound, places_from};
+    ghost use Rattle.kit_ground.specs.Rules.{WasFound};
     ghost use Rattle.kit_ground.specs.Steps.{place_after};
+    ghost use Rattle.kit_pool.specs.Dealing.{GuestIsOf, HasWords, IsLaidFor, IsOf, IsToDeal};
+    ghost use Rattle.kit_pool.specs.GuestViews.{guest_desk_of};
     ghost use Rattle.kit_pool.specs.Seating.{Plans};
     ghost use Rattle.kit_pool.specs.Seats.{IsSized, IsWithin};
     ghost use Rattle.kit_pool.specs.SeatViews.{IsNewSeatOn, IsSameTableSeat, IsSeatOn, desk_of, others_with, place_on};
@@ -182,8 +185,9 @@ impl<P: Protocol> TableSeat<P> {
 
     /// Takes another seat in: this one has its places too from now on, behind its own.
     pub fn take_in<F: Front>(&mut self, table: &SeatingTable<P, F>, other: TableSeat<P>)
-        requires of_it { (self.old.seat.table_id ≡ table.now.shared.table_id) × (other.seat.table_id ≡ table.now.shared.table_id) }
-        requires some { 0 < table.now.shared.table_id.words }
+        requires seat { IsOf table.now.shared self.old }
+        requires other { IsOf table.now.shared other }
+        requires some { HasWords table.now.shared }
         ensures same { IsSameTableSeat self.old self.new }
         ensures places { desk_of self.new ≡ desk_of self.old ++ desk_of other }
     {
@@ -195,6 +199,22 @@ impl<P: Protocol> TableSeat<P> {
         } = other;
         let seat = &mut self.seat;
         table.shared.join_seat::<OwnFirst>(seat, theirs);
+    }
+
+    /// Takes a guest's seat in, as where the table is to be closed.
+    pub(crate) fn take_in_guest<F: Front>(
+        &mut self,
+        table: &SeatingTable<P, F>,
+        guest: GuestSeat<P>,
+    )
+        requires seat { IsOf table.now.shared self.old }
+        requires guest { GuestIsOf table.now.shared guest }
+        requires some { HasWords table.now.shared }
+        ensures same { IsSameTableSeat self.old self.new }
+        ensures places { desk_of self.new ≡ desk_of self.old ++ guest_desk_of guest }
+    {
+        let seat = &mut self.seat;
+        table.shared.join_seat::<OwnFirst>(seat, guest.into_seat());
     }
 
     /// The seat of the table.
@@ -211,21 +231,21 @@ impl<P: Protocol> TableSeat<P> {
         seat
     }
 
-    /// The first of the places that a seat has goes to a seat of its own.
+    /// The first of the places that are still to be dealt, of as many as there are in all, goes to a
+    /// seat of its own.
     pub(crate) fn part<F: Front>(
         table: &SeatingTable<P, F>,
         rest: &mut Seat<(), LinkedList<Place<P::View>>>,
         number: u8,
         federates: u8,
         buffers: u16,
+        _all: u8,
     ) -> TableSeat<P>
-        requires of_it { rest.old.table_id ≡ table.now.shared.table_id }
-        requires laid { (table.now.shared.key.federates ≡ federates) × (table.now.shared.key.buffers ≡ buffers) }
-        requires some { 0 < table.now.shared.table_id.words }
+        requires laid { IsLaidFor table.now.shared federates buffers }
         requires within { IsWithin number federates buffers }
-        requires places { rest.old.me.0 ≡ places_from (P.first table.now.shared.key.opening.value) federates buffers number (federates - number) }
-        ensures same { (rest.new.table_id ≡ rest.old.table_id) × (rest.new.me.1 ≡ rest.old.me.1) }
-        ensures rest { rest.new.me.0 ≡ places_from (P.first table.now.shared.key.opening.value) federates buffers (number + 1) (federates - (number + 1)) }
+        requires all { federates ≤ _all }
+        requires rest { IsToDeal P.first table.now.shared number _all rest.old }
+        ensures rest { IsToDeal P.first table.now.shared (number + 1) _all rest.new }
         ensures seat { IsNewSeatOn P.first table.now.shared number result }
     {
         let seat = table.shared.split_seat::<OwnFirst>(rest);

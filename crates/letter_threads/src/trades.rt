@@ -1,20 +1,27 @@
 //! Federates that send letters to each other, each in a thread of its own, and compare what comes.
-ghost use Rattle.std.specs.Prelude.{◌≡◌, ◌≢◌, ℕ, ◌<◌, ◌≤◌};
+ghost use Rattle.std.specs.Prelude.{◌≡◌, ◌≢◌, ℕ, ◌<◌, ◌≤◌, slice_index};
+ghost use mathlib.Core.Option.{some};
+ghost use lib.ListN.{get_elem?};
 ghost use Rattle.kit_ground.specs.Steps.{IsSameSeat, buffer_of};
 ghost use Rattle.kit_courier.specs.Calls.{OwesTheSame};
 ghost use Rattle.kit_courier.specs.Deliveries.{courier_first};
 ghost use Rattle.kit_floor.specs.FloorViews.{IsNewSeatOf, buffers_of, federates_of};
+ghost use Rattle.kit_floor.specs.GuestViews.{IsGuestOf};
 
-use kit_courier::{Couriers, Letter, receive, send};
+use crate::watching::{Sight, watch};
+use kit_courier::{Couriers, Letter, advance, receive, send};
 use kit_floor::{FloorSeat, TableFloor};
 use kit_ground::Ground;
 use kit_known::Known;
 use std::alloc::{AllocError, Global};
-use std::thread::{Threads, map_vec, yield_now};
+use std::thread::{Threads, join, map_vec, yield_now};
 
 /// How many turns a federate takes at most. A run that is still without a letter then ends, and says
 /// so.
-const TURNS: u64 = 1 << 40;
+pub const TURNS: u64 = 1 << 40;
+
+/// What a federate's clock shows once its letters have gone and come.
+pub const OVER: u64 = u64::MAX;
 
 /// After so many turns in which nothing was sent and nothing came, the thread lets others run.
 const PATIENCE: u64 = 256;
@@ -77,6 +84,7 @@ fn send_next<G: Ground<Under = Couriers>>(
     ensures came { G.came seat.old seat.new }
     ensures same { IsSameSeat (G.place seat.old) (G.place seat.new) }
     ensures owed { OwesTheSame (G.place seat.old) (G.place seat.new) }
+    ensures shown { (G.place seat.new).own.shown ≡ (G.place seat.old).own.shown }
 {
     if *sent >= letters {
         return false;
@@ -105,6 +113,7 @@ fn receive_next<G: Ground<Under = Couriers>>(
     ensures came { G.came seat.old seat.new }
     ensures same { IsSameSeat (G.place seat.old) (G.place seat.new) }
     ensures owed { OwesTheSame (G.place seat.old) (G.place seat.new) }
+    ensures shown { (G.place seat.new).own.shown ≡ (G.place seat.old).own.shown }
 {
     if *came >= letters {
         return false;
@@ -139,6 +148,7 @@ fn exchange_with<G: Ground<Under = Couriers>>(
     ensures came { G.came seat.old seat.new }
     ensures same { IsSameSeat (G.place seat.old) (G.place seat.new) }
     ensures owed { OwesTheSame (G.place seat.old) (G.place seat.new) }
+    ensures shown { (G.place seat.new).own.shown ≡ (G.place seat.old).own.shown }
 {
     let at = entry(other, word);
     let is_sent = send_next(seat, &mut book.sent[at], letters, other, word);
@@ -161,6 +171,7 @@ fn exchange_all<G: Ground<Under = Couriers>>(seat: &mut G, book: &mut Book, lett
     ensures came { G.came seat.old seat.new }
     ensures same { IsSameSeat (G.place seat.old) (G.place seat.new) }
     ensures owed { (k : ℕ) → (buffer_of (G.place seat.new).own.stock k).to_post ≡ 0 }
+    ensures shown { (G.place seat.new).own.shown ≡ (G.place seat.old).own.shown }
 {
     let me = seat.me();
     let federates = seat.federates();
@@ -192,29 +203,48 @@ impl Book {
     }
 }
 
+/// Looks at the clocks of the others, and shows how far this federate is in its own.
+fn show<G: Ground<Under = Couriers>>(seat: &mut G, to: u64)
+    requires { slice_index (G.place seat.old).own.shown 12 ≤ to }
+    ensures came { G.came seat.old seat.new }
+    ensures same { IsSameSeat (G.place seat.old) (G.place seat.new) }
+    ensures owed { OwesTheSame (G.place seat.old) (G.place seat.new) }
+    ensures shown { slice_index (G.place seat.new).own.shown 12 ≡ to }
+{
+    advance(seat, to);
+}
+
 /// So many letters go to each other federate by each of both mail words, and as many come. It ends
-/// when all have.
-fn trade<G: Ground<Under = Couriers>>(seat: &mut G, letters: u64) -> Tally
+/// when all have. Where it is watched, the federate shows in its clock the last turn in which
+/// something was sent or came, and at the end that it is over.
+fn trade<G: Ground<Under = Couriers>>(seat: &mut G, letters: u64, is_watched: bool) -> Tally
     requires few { (G.place seat.old).own.federates ≤ 4 }
     requires wide { 64 < (G.place seat.old).own.buffers }
     requires owed { (k : ℕ) → (buffer_of (G.place seat.old).own.stock k).to_post ≡ 0 }
+    requires shown { slice_index (G.place seat.old).own.shown 12 ≡ 0 }
     ensures came { G.came seat.old seat.new }
 {
     let ways = 2 * u64::from(seat.federates().saturating_sub(1));
     let due = letters.wrapping_mul(ways);
     let mut book = Book::new();
     let mut idle = 0;
-    for _turn in 0..TURNS {
+    for turn in 0..TURNS {
         if book.counts() == (due, due) {
             break;
         }
         if exchange_all(seat, &mut book, letters) {
             idle = 0;
+            if is_watched {
+                show(seat, turn);
+            }
         } else if idle < PATIENCE {
             idle += 1;
         } else {
             yield_now();
         }
+    }
+    if is_watched {
+        show(seat, OVER);
     }
     Tally {
         came: book.counts().1,
@@ -223,13 +253,50 @@ fn trade<G: Ground<Under = Couriers>>(seat: &mut G, letters: u64) -> Tally
 }
 
 /// What one federate of a floor does.
-fn work(floor: &TableFloor<Couriers>, seat: FloorSeat<Couriers>, letters: u64) -> Tally
+fn work(
+    floor: &TableFloor<Couriers>,
+    seat: FloorSeat<Couriers>,
+    letters: u64,
+    is_watched: bool,
+) -> Tally
     requires few { federates_of floor.now ≤ 4 }
     requires wide { 64 < buffers_of floor.now }
     requires new { (k : ℕ) × IsNewSeatOf courier_first floor.now k seat }
 {
     let mut ground = floor.stand(seat);
-    trade(&mut ground, letters)
+    trade(&mut ground, letters, is_watched)
+}
+
+/// The federates of a floor trade, each in a thread of its own. It gives what came to all of them.
+fn trade_all<R: Threads + Sync>(
+    rt: &R,
+    floor: &TableFloor<Couriers>,
+    seats: Vec<FloorSeat<Couriers>>,
+    letters: u64,
+    is_watched: bool,
+) -> Result<Tally, AllocError>
+    requires few { federates_of floor.now ≤ 4 }
+    requires wide { 64 < buffers_of floor.now }
+    requires seats { (k : ℕ) (s : _) → get_elem? seats.items k ≡ some s → IsNewSeatOf courier_first floor.now k s }
+{
+    let tallies = map_vec(
+        rt,
+        seats,
+        &|seat: FloorSeat<Couriers>| -> Tally
+            requires few { federates_of floor.now ≤ 4 }
+            requires wide { 64 < buffers_of floor.now }
+            requires new { (k : ℕ) × IsNewSeatOf courier_first floor.now k seat }
+        { work(floor, seat, letters, is_watched) },
+    )?;
+    Ok(
+        tallies.iter().fold(
+            Tally { came: 0, wrong: 0 },
+            |all, one| Tally {
+                came: all.came.wrapping_add(one.came),
+                wrong: all.wrong.wrapping_add(one.wrong),
+            },
+        ),
+    )
 }
 
 /// So many federates trade on one floor, each in a thread of its own. It gives what came to all of
@@ -244,29 +311,37 @@ pub fn trade_on_threads<R: Threads + Sync>(
 ) -> Result<Tally, AllocError>
     requires { (1 ≤ federates) × (federates ≤ 4) }
 {
-    let (floor, seats) = TableFloor::<Couriers>::lay(
-        alloc,
-        federates,
-        65,
-        &Known::new(&federates),
-    )?;
+    let about = Known::new(&federates);
+    let (floor, seats) = TableFloor::<Couriers>::lay(alloc, federates, 65, &about)?;
+    trade_all(rt, &floor, seats, letters, false)
+}
+
+/// Two federates trade on one floor while a guest looks at their clocks, each of the three in a thread
+/// of its own. It gives what came to both, and what the guest saw.
+///
+/// It fails only for want of memory.
+pub fn trade_watched<R: Threads + Sync>(
+    rt: &R,
+    alloc: Global,
+    letters: u64,
+) -> Result<(Tally, Sight), AllocError> {
+    let about = Known::new(&2);
+    let (floor, seats, mut guests) = TableFloor::<Couriers>::lay_watched(alloc, 2, 65, 1, &about)?;
+    let Some(guest) = guests.pop() else {
+        unreachable!()
+    };
     let shared = &floor;
-    let tallies = map_vec(
+    let (sight, all) = join(
         rt,
-        seats,
-        &|seat: FloorSeat<Couriers>| -> Tally
+        move || -> Sight
+            requires guest { IsGuestOf shared.now guest }
+            requires two { federates_of shared.now ≡ 2 }
+        { watch(shared, guest) },
+        move || -> Result<Tally, AllocError>
             requires few { federates_of shared.now ≤ 4 }
             requires wide { 64 < buffers_of shared.now }
-            requires new { (k : ℕ) × IsNewSeatOf courier_first shared.now k seat }
-        { work(shared, seat, letters) },
-    )?;
-    Ok(
-        tallies.iter().fold(
-            Tally { came: 0, wrong: 0 },
-            |all, one| Tally {
-                came: all.came.wrapping_add(one.came),
-                wrong: all.wrong.wrapping_add(one.wrong),
-            },
-        ),
-    )
+            requires seats { (k : ℕ) (s : _) → get_elem? seats.items k ≡ some s → IsNewSeatOf courier_first shared.now k s }
+        { trade_all(rt, shared, seats, letters, true) },
+    );
+    Ok((all?, sight))
 }

@@ -1,7 +1,7 @@
-use Rattle.std.proofs.Common.{ℕ, List, [], ◌∷◌, sym, ap, ◌∙◌, subst, arith, length, length-append}
+use Rattle.std.proofs.Common.{ℕ, [], ◌∷◌, ◌+◌, sym, ap, subst, arith, length, length-append}
 use Rattle.std.proofs.lemmas.List.{length-replicate}
 use Rattle.kit_ground.specs.Layout.{size_of}
-use Rattle.kit_ground.specs.Rules.{places_at_first}
+use Rattle.kit_ground.specs.Rules.{places_from}
 use Rattle.kit_pool.specs.Seating.{TableHolds}
 use Rattle.kit_pool.proofs.Splitting.{opens}
 use Rattle.kit_pool.proofs.dealing.lay.Goals as goal
@@ -13,8 +13,8 @@ of_words-requires g c =
     let n = c.args.federates in
     let b = c.args.buffers in
     let front = g.F.Front.front n in
-    let made = opens rule (first c.args.opening.now.value) n b front c.args.words.now c.requires.federates.0 c.requires.federates.1 c.requires.buffers.1 c.requires.rule c.requires.words in
-    subst (λ o. TableHolds rule n b front c.args.words.now (places_at_first (first o) n b ∷ [])) (sym c.again.ensures) made
+    let made = opens rule (first c.args.opening.now.value) n b c.args.guests front c.args.words.now c.requires.federates.0 c.requires.federates.1 c.requires.buffers.1 c.requires.rule c.requires.sees c.requires.words in
+    subst (λ o. TableHolds rule n b front c.args.words.now (places_from (first o) n b 0 (n + c.args.guests) ∷ [])) (sym c.again.ensures) made
 
 pub returns-clause-sized : goal.returns-clause-sized
 returns-clause-sized g c =

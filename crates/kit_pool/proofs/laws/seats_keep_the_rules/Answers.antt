@@ -1,3 +1,4 @@
+use Rattle.kit_pool.proofs.GuestSteps.{sees}
 use Rattle.kit_pool.proofs.Joining.{joins}
 use Rattle.kit_pool.proofs.SeatSteps.{finds, stores}
 use Rattle.kit_pool.proofs.Splitting.{opens, splits}
@@ -8,6 +9,9 @@ returns-clause-steps g c = λ n b front. finds g.P.Protocol.rule n b front
 
 pub returns-clause-stores : goal.returns-clause-stores
 returns-clause-stores g c = λ n b front. stores g.P.Protocol.rule n b front
+
+pub returns-clause-looks : goal.returns-clause-looks
+returns-clause-looks g c = λ n b front. sees g.P.Protocol.rule n b front
 
 pub returns-clause-cut : goal.returns-clause-cut
 returns-clause-cut g c = splits g.P.Protocol.rule

@@ -1,4 +1,3 @@
-use Rattle.std.proofs.Common.{ℕ}
 use Rattle.kit_pool.specs.PoolViews.{IsNewSeatOf}
 use Rattle.kit_pool.proofs.SeatLists.{each_left, last_is, one_fewer}
 use Rattle.kit_pool.proofs.tests.pool_of_three.Goals as goal

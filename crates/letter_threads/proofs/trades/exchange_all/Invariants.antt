@@ -7,3 +7,4 @@ invariant-loop-other g l =
     g.G.Ground.came l.initial.seat l.seat
     × IsSameSeat (g.G.Ground.place l.initial.seat) (g.G.Ground.place l.seat)
     × ((k : ℕ) → (buffer_of (g.G.Ground.place l.seat).own.stock k).to_post ≡ 0)
+    × ((g.G.Ground.place l.seat).own.shown ≡ (g.G.Ground.place l.initial.seat).own.shown)

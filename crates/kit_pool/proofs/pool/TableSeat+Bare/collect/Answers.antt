@@ -1,12 +1,11 @@
-use Rattle.std.proofs.Common.{◌≡◌, ◌==◌, ℕ, ◌+◌, ◌-◌, ◌*◌, ◌/◌, ◌%◌, ◌^◌, ◌<◌, ◌≤◌, refl, sym, ap, ◌∙◌, subst, arith}
-use Rattle.std.specs.Prelude.{bit_or}
-use Rattle.kit_ground.specs.declared.address.Address.TheVariants.{Register, Stop, Mail, Count, Part}
-use Rattle.kit_ground.specs.declared.place.Deed.TheVariants.{Looked, Published, Stopped, SawStop, SawFree, Wrote, Charged, PostedTo, Collected, ReadPart, Released}
+use Rattle.std.proofs.Common.{ℕ, refl, sym, ◌∙◌}
+use Rattle.kit_ground.specs.declared.address.Address.TheVariants.{Mail}
+use Rattle.kit_ground.specs.declared.place.Deed.TheVariants.{Collected}
 use Rattle.kit_pool.specs.Pools.{as_it_is, bare_rule, no_client}
 use Rattle.kit_pool.specs.Seating.{Plans, place_in}
-use Rattle.kit_pool.proofs.Calls.{did_as, did_at, plan_at, there_at, told_at}
+use Rattle.kit_pool.proofs.Calls.{plan_at, there_at, told_at}
 use Rattle.kit_pool.proofs.Owning.{own_numbers}
-use Rattle.kit_pool.proofs.PoolWords.{count_behind, mail_behind, part_behind}
+use Rattle.kit_pool.proofs.PoolWords.{mail_behind}
 use Rattle.kit_pool.proofs.pool.TableSeat+Bare.collect.Goals as goal
 
 pub place_of-at-requires-clause-there : goal.place_of-at-requires-clause-there

@@ -1,5 +1,4 @@
-use Rattle.std.proofs.Common.{◌≡◌, ℕ, ◌+◌, ◌-◌, ◌%◌, ◌^◌, ◌∙◌}
-use Rattle.std.specs.Prelude.{bit_or}
+use Rattle.std.proofs.Common.{◌∙◌}
 use Rattle.kit_pool.proofs.Owning.{own_after_step}
 use Rattle.kit_pool.proofs.Stepping.{may_find, was_found, word_inside}
 use Rattle.kit_pool.proofs.seat.TableSeat.load.Goals as goal
@@ -14,7 +13,7 @@ load-requires g c =
     let deed = g.D.Plan.deed in (
       c.requires.seat.of_it,
       word_inside rule first front s.number s.federates s.buffers _ _ (c.requires.seat.as_many, c.requires.seat.as_wide) s.seat.me s.own next c.args.at c.args.address c.requires.at c.args.table.now.shared.table_id s.within c.requires.sized (λ n. n) deed c.requires.plan,
-      may_find rule first front s.number s.federates s.buffers _ _ (c.requires.seat.as_many, c.requires.seat.as_wide) s.seat.me s.own next c.args.at c.args.address c.requires.at _ _ (λ n. n) deed c.requires.plan,
+      may_find rule first front s.number s.federates s.buffers _ _ (c.requires.seat.as_many, c.requires.seat.as_wide) s.seat.me s.own next c.args.at c.args.address c.requires.at s.within _ _ (λ n. n) deed c.requires.plan,
     )
 
 pub invariant_of-self : goal.invariant_of-self

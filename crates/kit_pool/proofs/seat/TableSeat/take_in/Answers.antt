@@ -3,7 +3,7 @@ use Rattle.kit_pool.proofs.Joining.{joins, own_after_join}
 use Rattle.kit_pool.proofs.seat.TableSeat.take_in.Goals as goal
 
 pub join_seat-requires : goal.join_seat-requires
-join_seat-requires g c = (c.requires.of_it.0, c.requires.of_it.1, c.args.other.bare, c.requires.some, joins g.P.Protocol.rule _ _ _ _ _ _ _)
+join_seat-requires g c = (c.requires.seat, c.requires.other, c.args.other.bare, c.requires.some, joins g.P.Protocol.rule _ _ _ _ _ _ _)
 
 pub invariant_of-self : goal.invariant_of-self
 invariant_of-self g c =
