@@ -1,0 +1,14 @@
+pub mod Fields
+pub mod Ends
+pub mod Frames
+pub mod Mirrors
+pub mod Looks
+pub mod Starting
+pub mod Receiving
+pub mod Sending
+pub mod Reducing
+pub mod Settling
+pub mod Granting
+pub mod Nodes
+pub mod Seats
+pub mod Turns
