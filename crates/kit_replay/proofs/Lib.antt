@@ -1,0 +1,13 @@
+pub mod Lists
+pub mod TurnLists
+pub mod Found
+pub mod Beginning
+pub mod Taking
+pub mod Running
+pub mod Reported
+pub mod Reporting
+pub mod Causes
+pub mod Quiet
+pub mod Closing
+pub mod Ending
+pub mod Merged
