@@ -3,13 +3,15 @@
 ghost use Rattle.std.specs.Prelude.{◌≡◌, ◌<◌, ◌≤◌, ◌++◌, length, codes, decimal, IfOk, OnOk, All};
 ghost use Rattle.std.specs.List.{flat_map};
 ghost use Rattle.kit_rules.specs.Fits.{LineFits};
-ghost use Rattle.kit_rules.specs.Text.{origin_text, value_text, line_text, vars_text, closing_text, closings_text, history_text};
+ghost use Rattle.kit_rules.specs.Text.{origin_text, value_text, line_text, vars_text, closing_text};
+ghost use Rattle.kit_rules.specs.Text.{closings_text, history_text};
 
 use kit_base::{History, Line, Message, push_decimal};
 use kit_rules::{Federate, Federation, Var};
 use std::alloc::{AllocError, Global};
 
-/// The room that is made at once for a line, in bytes; the text grows past it where lines are longer.
+/// The room that is made at once for a line, in bytes; the text grows past it where lines are
+/// longer.
 const LINE_ROOM: usize = 48;
 
 fn push_delivery(
@@ -20,7 +22,8 @@ fn push_delivery(
     message: &Message,
 ) -> Result<(), AllocError>
     requires { LineFits federation.now (Line.Deliver granted federate message.now) }
-    ensures { OnOk result (out.new.items ≡ out.old.items ++ line_text federation.now (Line.Deliver granted federate message.now)) }
+    ensures { OnOk result (out.new.items ≡
+        out.old.items ++ line_text federation.now (Line.Deliver granted federate message.now)) }
 {
     push_decimal(out, granted)?;
     out.push(b' ')?;
@@ -37,7 +40,8 @@ fn push_origin(
 ) -> Result<(), AllocError>
     requires sender { message.now.sender < length federation.now.federates }
     requires group { message.now.group < length federation.now.groups }
-    ensures { OnOk result (out.new.items ≡ out.old.items ++ origin_text federation.now message.now) }
+    ensures { OnOk result (out.new.items ≡
+        out.old.items ++ origin_text federation.now message.now) }
 {
     out.extend_from_slice(federation.group(message.group).name.bytes())?;
     out.push(b' ')?;
@@ -64,7 +68,8 @@ fn push_grant(
     federate: u8,
 ) -> Result<(), AllocError>
     requires { LineFits federation.now (Line.Grant time federate) }
-    ensures { OnOk result (out.new.items ≡ out.old.items ++ line_text federation.now (Line.Grant time federate)) }
+    ensures { OnOk result (out.new.items ≡
+        out.old.items ++ line_text federation.now (Line.Grant time federate)) }
 {
     push_decimal(out, time)?;
     out.push(b' ')?;
@@ -88,7 +93,8 @@ fn push_line(out: &mut Vec<u8>, federation: &Federation, line: &Line) -> Result<
 
 fn push_lines(out: &mut Vec<u8>, federation: &Federation, lines: &[Line]) -> Result<(), AllocError>
     requires { All (LineFits federation.now) lines.now }
-    ensures { OnOk result (out.new.items ≡ out.old.items ++ flat_map (line_text federation.now) lines.now) }
+    ensures { OnOk result (out.new.items ≡
+        out.old.items ++ flat_map (line_text federation.now) lines.now) }
 {
     for line in lines {
         push_line(out, federation, line)?;
@@ -97,7 +103,8 @@ fn push_lines(out: &mut Vec<u8>, federation: &Federation, lines: &[Line]) -> Res
 }
 
 fn push_var(out: &mut Vec<u8>, name: &[u8], value: u32) -> Result<(), AllocError>
-    ensures { OnOk result (out.new.items ≡ out.old.items ++ codes " " ++ name.now ++ codes "=" ++ decimal value) }
+    ensures { OnOk result (out.new.items ≡
+        out.old.items ++ codes " " ++ name.now ++ codes "=" ++ decimal value) }
 {
     out.push(b' ')?;
     out.extend_from_slice(name)?;
@@ -126,7 +133,7 @@ fn push_closing(out: &mut Vec<u8>, federate: &Federate, values: &[u32; 8]) -> Re
     Ok(())
 }
 
-fn push_closings(
+pub(crate) fn push_closings(
     out: &mut Vec<u8>,
     federates: &[Federate],
     vars: &[[u32; 8]],
@@ -151,7 +158,8 @@ pub fn text(
 ) -> Result<Vec<u8>, AllocError>
     requires lines { All (LineFits federation.now) history.now.lines }
     requires vars { length history.now.vars ≡ length federation.now.federates }
-    ensures { IfOk result (λ out. out.items ≡ history_text federation.now history.now.lines history.now.vars) }
+    ensures { IfOk result (λ out. out.items ≡
+        history_text federation.now history.now.lines history.now.vars) }
 {
     let room = history.lines.len().saturating_mul(LINE_ROOM);
     let mut out = Vec::with_capacity(alloc, room)?;

@@ -1,8 +1,11 @@
 //! The merge of the federates' parts into one history.
 
-ghost use Rattle.std.specs.Prelude.{◌≡◌, ◌≢◌, ◌<◌, ◌≤◌, ◌++◌, List, length, map, IfOk, IfSome, IfNone, OnOk, None};
+ghost use Rattle.std.specs.Prelude.{◌≡◌, ◌≢◌, ◌<◌, ◌≤◌, ◌++◌, List, length, map, IfOk, IfSome};
+ghost use Rattle.std.specs.Prelude.{IfNone, OnOk, None};
 ghost use Rattle.kit_rules.specs.Merging.{ArePartsOf, IsMerged, lines_at, vars_in};
-ghost use Rattle.kit_report.specs.Merges.{HaveNoTime, IsSoonest, behind_grant, first_grant_time, last_lines, sooner_of, through_grant, time_left, grant_time};
+ghost use Rattle.kit_report.specs.Merges.{HaveNoTime, IsSoonest, behind_grant, first_grant_time};
+ghost use Rattle.kit_report.specs.Merges.{last_lines, sooner_of, through_grant, time_left};
+ghost use Rattle.kit_report.specs.Merges.{grant_time};
 ghost use Rattle.kit_rules.specs.Simulation.{Block};
 
 use kit_base::{History, Items, Line, Part};
@@ -55,9 +58,12 @@ fn sooner(best: Option<(u64, usize)>, time: u64, at: usize) -> Option<(u64, usiz
 
 /// Takes the lines that are left of a part up to its next grant, and says how many are left then.
 fn take_block(lines: &mut Items<Line>, part: &Part, left: usize) -> Result<usize, AllocError>
-    ensures taken { OnOk result (lines.new ≡ lines.old ++ through_grant (last_lines left part.now.lines)) }
-    ensures rest { IfOk result (λ after. last_lines after part.now.lines ≡ behind_grant (last_lines left part.now.lines)) }
-    ensures less { IfOk result (λ after. first_grant_time (last_lines left part.now.lines) ≢ None → after < left) }
+    ensures taken { OnOk result (lines.new ≡
+        lines.old ++ through_grant (last_lines left part.now.lines)) }
+    ensures rest { IfOk result (λ after. last_lines after part.now.lines ≡
+        behind_grant (last_lines left part.now.lines)) }
+    ensures less { IfOk result (λ after. first_grant_time (last_lines left part.now.lines) ≢ None
+        → after < left) }
 {
     let from = part.lines.as_slice();
     let mut at = from.len().saturating_sub(left);
@@ -72,12 +78,14 @@ fn take_block(lines: &mut Items<Line>, part: &Part, left: usize) -> Result<usize
 }
 
 /// The history of federates by their parts, in the order of the federates: the blocks of all parts,
-/// each a grant behind its deliveries, by grant time and then by federate; and the variables of each.
+/// each a grant behind its deliveries, by grant time and then by federate; and the variables of
+/// each.
 ///
-/// A part has whole blocks of its own federate, whose times rise strictly; of other lines nothing is
-/// said. It fails only for want of memory.
+/// A part has whole blocks of its own federate, whose times rise strictly; of other lines nothing
+/// is said. It fails only for want of memory.
 pub fn merge(alloc: Global, parts: &[Part]) -> Result<History, AllocError>
-    ensures lines { IfOk result (λ history. (blocks : List (List Block)) → ArePartsOf parts.now blocks → IsMerged blocks history.lines) }
+    ensures lines { IfOk result (λ history. (blocks : List (List Block)) →
+        ArePartsOf parts.now blocks → IsMerged blocks history.lines) }
     ensures vars { IfOk result (λ history. history.vars ≡ map vars_in parts.now) }
 {
     Ok(History {
@@ -99,7 +107,8 @@ fn all_vars(alloc: Global, parts: &[Part]) -> Result<Items<[u32; 8]>, AllocError
 
 /// The lines of the blocks of all parts, merged.
 fn merge_lines(alloc: Global, parts: &[Part]) -> Result<Items<Line>, AllocError>
-    ensures { IfOk result (λ lines. (blocks : List (List Block)) → ArePartsOf parts.now blocks → IsMerged blocks lines) }
+    ensures { IfOk result (λ lines. (blocks : List (List Block)) →
+        ArePartsOf parts.now blocks → IsMerged blocks lines) }
 {
     let mut lines = Items::new(alloc);
     let mut left = all_left(alloc, parts)?;
