@@ -1,2 +1,4 @@
 pub mod Telling
+pub mod Ends
 pub mod OneCause
+pub mod Histories

@@ -1,5 +1,5 @@
--- The words and the input cause one status and one text.
-use Rattle.std.proofs.Common.{◌≡◌, ◌≢◌, ◌⊎◌, inl, inr, ◌≤◌, ◌+◌, ℕ, List, [], ◌∷◌, length, Option, Some, None, IfSome, Result, Ok, Err, codes, refl, sym, subst, ap, ◌∙◌, arith}
+-- The words, the input and what was replayed cause one status and one text.
+use Rattle.std.proofs.Common.{◌≡◌, ◌≢◌, ◌⊎◌, inl, inr, ◌≤◌, ◌+◌, ℕ, List, [], ◌∷◌, length, get_or, Option, Some, None, IfSome, Result, Ok, Err, codes, refl, sym, subst, ap, ◌∙◌, arith}
 use Rattle.serde_json.specs.Data.{Data}
 use Rattle.kit_io.specs.declared.source.Source.{Ghosts}
 use Rattle.kit_io.specs.Causes.{Took}
@@ -9,11 +9,16 @@ use Rattle.kit_file.specs.declared.fault.FileFault.{FileFault}
 use Rattle.kit_file.specs.declared.fault.FileFault.TheVariants as file
 use Rattle.kit_file.specs.Answers.{Says, IsAccepted, IsFirstFault, IsNoJson, file_fault, rooted}
 use Rattle.kit_file.specs.Walk.{walk}
+use Rattle.kit_node.specs.declared.ends.End.{End}
+use Rattle.kit_node.specs.declared.ends.End.TheVariants as ends
+use Rattle.kit_schedule.specs.Schedules.{IsSchedule}
+use Rattle.kit_schedule.proofs.Fronts.{words_same}
 use Rattle.kit_top.specs.declared.command.Command.{Command}
-use Rattle.kit_top.specs.declared.command.Command.TheVariants.{Oracle, Check}
+use Rattle.kit_top.specs.declared.command.Command.TheVariants.{Oracle, Check, Replay}
 use Rattle.kit_top.specs.declared.status.Status.{Status}
-use Rattle.kit_top.specs.declared.status.Status.TheVariants.{Done, Usage, ReadFault, TooLong, BadFile, SendsSpent, WriteFault, NoMemory}
-use Rattle.kit_top.specs.Causes.{Causes, FileCauses, FederationCauses, IsCommand, IsNoCommand, IsWhole, IsThis, IsBadFile, bad_file_text, spent_text, text_of, OneCause, Completes, most_bytes}
+use Rattle.kit_top.specs.declared.status.Status.TheVariants.{Done, Usage, ReadFault, TooLong, BadFile, Unfinished, NoBuffer, SendsSpent, RoundsSpent, WriteFault, NoMemory}
+use Rattle.kit_top.specs.Causes.{Answers, Causes, EndCauses, FileCauses, FederationCauses, HasBuffers, IsCommand, IsNoCommand, IsReplayCommand, IsWhole, IsThis, IsBadFile, Run, SimulationCauses, bad_file_text, end_of, spent_text, text_of, OneCause, Completes, most_bytes}
+use Rattle.kit_top.proofs.Ends.{IsEnough, run_is_enough}
 
 some_same : {X : Type 0} (x y : X) → Some x ≡ Some y → x ≡ y
 some_same x y e = cc
@@ -78,65 +83,141 @@ accepted_not_bad : (bytes : List ℕ) (p : Parts) (f : FileFault) → IsAccepted
 accepted_not_bad bytes p f a b =
     elim (bad_cases bytes f b) [ inl y ↦ json_is bytes a.0 a.1 y.1 | inr y ↦ accepted_no_fault bytes p f a y ]
 
--- what a federation causes: its text, or that a federate takes number 16,385
-federation_cases : (command : Command) (p : Parts) (s : Status) (a : List ℕ) → FederationCauses command p s a
+-- what a simulation causes: a text, or that a federate takes number 16,385
+simulation_cases : (command : Command) (p : Parts) (s : Status) (a : List ℕ) → SimulationCauses command p s a
     → ((s ≡ Done) × (spender p ≡ None) × (a ≡ text_of command p)) ⊎ ((i : ℕ) × (s ≡ SendsSpent i) × (spender p ≡ Some i) × (a ≡ spent_text p i))
-federation_cases command p Done a h = inl (refl, h.0, h.1)
-federation_cases command p (SendsSpent i) a h = inr (i, refl, h.0, h.1)
-federation_cases command p Usage a h = absurd h
-federation_cases command p ReadFault a h = absurd h
-federation_cases command p TooLong a h = absurd h
-federation_cases command p (BadFile f) a h = absurd h
-federation_cases command p WriteFault a h = absurd h
-federation_cases command p NoMemory a h = absurd h
+simulation_cases command p Done a h = inl (refl, h.0, h.1)
+simulation_cases command p (SendsSpent i) a h = inr (i, refl, h.0, h.1)
+simulation_cases command p Usage a h = absurd h
+simulation_cases command p ReadFault a h = absurd h
+simulation_cases command p TooLong a h = absurd h
+simulation_cases command p (BadFile f) a h = absurd h
+simulation_cases command p (Unfinished i) a h = absurd h
+simulation_cases command p (NoBuffer i n) a h = absurd h
+simulation_cases command p (RoundsSpent i) a h = absurd h
+simulation_cases command p WriteFault a h = absurd h
+simulation_cases command p NoMemory a h = absurd h
 
-federation_same : (command : Command) (p : Parts) (s t : Status) (a b : List ℕ) → FederationCauses command p s a → FederationCauses command p t b → (s ≡ t) × (a ≡ b)
-federation_same command p s t a b h k =
-    elim (federation_cases command p s a h) [
-      | inl x ↦ elim (federation_cases command p t b k) [
+none_some : (i : ℕ) → None ≡ Some i → ⊥
+none_some i e = absurd (cc)
+
+simulation_same : (command : Command) (p : Parts) (s t : Status) (a b : List ℕ) → SimulationCauses command p s a → SimulationCauses command p t b → (s ≡ t) × (a ≡ b)
+simulation_same command p s t a b h k =
+    elim (simulation_cases command p s a h) [
+      | inl x ↦ elim (simulation_cases command p t b k) [
         | inl y ↦ (x.0 ∙ sym y.0, x.2 ∙ sym y.2)
         | inr y ↦ absurd (none_some y.0 (sym x.1 ∙ y.2))
       ]
-      | inr x ↦ elim (federation_cases command p t b k) [
+      | inr x ↦ elim (simulation_cases command p t b k) [
         | inl y ↦ absurd (none_some x.0 (sym y.1 ∙ x.2))
         | inr y ↦ (let same : x.0 ≡ y.0 = some_same x.0 y.0 (sym x.2 ∙ y.2) in (x.1 ∙ ap SendsSpent same ∙ sym y.1, x.3 ∙ ap (spent_text p) same ∙ sym y.3))
       ]
     ]
-  where
-    none_some : (i : ℕ) → None ≡ Some i → ⊥
-    none_some i e = absurd (cc)
+
+this_same : (status : Status) (words : List ℕ) (s t : Status) (a b : List ℕ) → IsThis status words s a → IsThis status words t b → (s ≡ t) × (a ≡ b)
+this_same status words s t a b h k = (h.0 ∙ sym k.0, h.1 ∙ sym k.1)
+
+end_same : (p : Parts) (end : End) (s t : Status) (a b : List ℕ) → EndCauses p end s a → EndCauses p end t b → (s ≡ t) × (a ≡ b)
+end_same p ends.Done s t a b h k = this_same _ _ s t a b h k
+end_same p (ends.Unfinished i) s t a b h k = this_same _ _ s t a b h k
+end_same p (ends.NoBuffer i n) s t a b h k = this_same _ _ s t a b h k
+end_same p (ends.SendsSpent i) s t a b h k = this_same _ _ s t a b h k
+end_same p (ends.RoundsSpent i) s t a b h k = absurd h
+end_same p ends.NoMemory s t a b h k = absurd h
+
+-- a command that replays
+abbrev IsReplaying : Command → Type 0
+IsReplaying (Replay schedule) = Unit {0}
+IsReplaying _ = ⊥
+
+-- two runs of it, if it replays, ended alike
+abbrev EndAlike : Command → Option Run → Option Run → Type 0
+EndAlike command q r = IsReplaying command → end_of q ≡ end_of r
+
+federation_same : (command : Command) (p : Parts) (q r : Option Run) (s t : Status) (a b : List ℕ) → EndAlike command q r → FederationCauses command p q s a → FederationCauses command p r t b → (s ≡ t) × (a ≡ b)
+federation_same Oracle p q r s t a b alike h k = simulation_same Oracle p s t a b h k
+federation_same Check p q r s t a b alike h k = simulation_same Check p s t a b h k
+federation_same (Replay schedule) p None r s t a b alike h k = absurd h
+federation_same (Replay schedule) p (Some x) None s t a b alike h k = absurd k
+federation_same (Replay schedule) p (Some x) (Some y) s t a b alike h k =
+    let same : x.end ≡ y.end = some_same x.end y.end (alike tt) in
+    let P : End → Type 0 = λ end. EndCauses p end s a in
+    end_same p y.end s t a b (subst P same h.1) k.1
 
 -- what a file causes: its fault, or what its federation causes
-file_cases : (command : Command) (bytes : List ℕ) (s : Status) (a : List ℕ) → FileCauses command bytes s a
-    → ((f : FileFault) × (s ≡ BadFile f) × IsBadFile bytes f × (a ≡ bad_file_text f)) ⊎ ((p : Parts) × IsAccepted bytes p × FederationCauses command p s a)
-file_cases command bytes (BadFile f) a h = inl (f, refl, h.0, h.1)
-file_cases command bytes Done a h = inr h
-file_cases command bytes Usage a h = inr h
-file_cases command bytes ReadFault a h = inr h
-file_cases command bytes TooLong a h = inr h
-file_cases command bytes (SendsSpent i) a h = inr h
-file_cases command bytes WriteFault a h = inr h
-file_cases command bytes NoMemory a h = inr h
+file_cases : (command : Command) (bytes : List ℕ) (run : Option Run) (s : Status) (a : List ℕ) → FileCauses command bytes run s a
+    → ((f : FileFault) × (s ≡ BadFile f) × IsBadFile bytes f × (a ≡ bad_file_text f)) ⊎ ((p : Parts) × IsAccepted bytes p × FederationCauses command p run s a)
+file_cases command bytes run (BadFile f) a h = inl (f, refl, h.0, h.1)
+file_cases command bytes run Done a h = inr h
+file_cases command bytes run Usage a h = inr h
+file_cases command bytes run ReadFault a h = inr h
+file_cases command bytes run TooLong a h = inr h
+file_cases command bytes run (Unfinished i) a h = inr h
+file_cases command bytes run (NoBuffer i n) a h = inr h
+file_cases command bytes run (SendsSpent i) a h = inr h
+file_cases command bytes run (RoundsSpent i) a h = inr h
+file_cases command bytes run WriteFault a h = inr h
+file_cases command bytes run NoMemory a h = inr h
 
-file_same : (command : Command) (bytes : List ℕ) (s t : Status) (a b : List ℕ) → FileCauses command bytes s a → FileCauses command bytes t b → (s ≡ t) × (a ≡ b)
-file_same command bytes s t a b h k =
-    elim (file_cases command bytes s a h) [
-      | inl x ↦ elim (file_cases command bytes t b k) [
+file_same : (command : Command) (bytes : List ℕ) (q r : Option Run) (s t : Status) (a b : List ℕ) → EndAlike command q r → FileCauses command bytes q s a → FileCauses command bytes r t b → (s ≡ t) × (a ≡ b)
+file_same command bytes q r s t a b alike h k =
+    elim (file_cases command bytes q s a h) [
+      | inl x ↦ elim (file_cases command bytes r t b k) [
         | inl y ↦ (let same : x.0 ≡ y.0 = bad_same bytes x.0 y.0 x.2 y.2 in (x.1 ∙ ap BadFile same ∙ sym y.1, x.3 ∙ ap bad_file_text same ∙ sym y.3))
         | inr y ↦ absurd (accepted_not_bad bytes y.0 x.0 y.1 x.2)
       ]
-      | inr x ↦ elim (file_cases command bytes t b k) [
+      | inr x ↦ elim (file_cases command bytes r t b k) [
         | inl y ↦ absurd (accepted_not_bad bytes x.0 y.0 x.1 y.2)
-        | inr y ↦ (let same : y.0 ≡ x.0 = accepted_same bytes y.0 x.0 y.1 x.1 in let P : Parts → Type 0 = λ p. FederationCauses command p t b in federation_same command x.0 s t a b x.2 (subst P same y.2))
+        | inr y ↦ (let same : y.0 ≡ x.0 = accepted_same bytes y.0 x.0 y.1 x.1 in let P : Parts → Type 0 = λ p. FederationCauses command p r t b in federation_same command x.0 q r s t a b alike x.2 (subst P same y.2))
       ]
     ]
+
+tail_same : (w : List ℕ) (xs ys : List (List ℕ)) → w ∷ xs ≡ w ∷ ys → xs ≡ ys
+tail_same w xs ys e = cc
+
+-- words with other first letters are others
+differ : (a b : List (List ℕ)) (m n : ℕ) → a ≡ b → get_or (get_or a 0 []) 0 0 ≡ m → get_or (get_or b 0 []) 0 0 ≡ n → m ≢ n → ⊥
+differ a b m n e here there other = other (sym here ∙ ap (λ (ws : List (List ℕ)). get_or (get_or ws 0 []) 0 0) e ∙ there)
+
+o_not_c : (m n : ℕ) → m ≡ 111 → n ≡ 99 → m ≢ n
+o_not_c m n a b e = absurd (omega arith)
+
+o_not_r : (m n : ℕ) → m ≡ 111 → n ≡ 114 → m ≢ n
+o_not_r m n a b e = absurd (omega arith)
+
+c_not_r : (m n : ℕ) → m ≡ 99 → n ≡ 114 → m ≢ n
+c_not_r m n a b e = absurd (omega arith)
+
+oracle_or_check : codes "oracle" ∷ [] ≡ codes "check" ∷ [] → ⊥
+oracle_or_check e = differ (codes "oracle" ∷ []) (codes "check" ∷ []) 111 99 e refl refl (o_not_c 111 99 refl refl)
+
+oracle_or_replay : (rest : List (List ℕ)) → codes "oracle" ∷ [] ≡ codes "replay" ∷ rest → ⊥
+oracle_or_replay rest e = differ (codes "oracle" ∷ []) (codes "replay" ∷ rest) 111 114 e refl refl (o_not_r 111 114 refl refl)
+
+check_or_replay : (rest : List (List ℕ)) → codes "check" ∷ [] ≡ codes "replay" ∷ rest → ⊥
+check_or_replay rest e = differ (codes "check" ∷ []) (codes "replay" ∷ rest) 99 114 e refl refl (c_not_r 99 114 refl refl)
 
 -- words are those of one command
 command_same : (words : List (List ℕ)) (c d : Command) → IsCommand words c → IsCommand words d → c ≡ d
 command_same words Oracle Oracle a b = refl
 command_same words Check Check a b = refl
-command_same words Oracle Check a b = let e : codes "oracle" ∷ [] ≡ codes "check" ∷ [] = sym a ∙ b in absurd (cc)
-command_same words Check Oracle a b = let e : codes "check" ∷ [] ≡ codes "oracle" ∷ [] = sym a ∙ b in absurd (cc)
+command_same words Oracle Check a b = absurd (oracle_or_check (sym a ∙ b))
+command_same words Check Oracle a b = absurd (oracle_or_check (sym b ∙ a))
+command_same words Oracle (Replay schedule) a b = absurd (oracle_or_replay b.0 (sym a ∙ b.1))
+command_same words Check (Replay schedule) a b = absurd (check_or_replay b.0 (sym a ∙ b.1))
+command_same words (Replay schedule) Oracle a b = absurd (oracle_or_replay a.0 (sym b ∙ a.1))
+command_same words (Replay schedule) Check a b = absurd (check_or_replay a.0 (sym b ∙ a.1))
+command_same words (Replay x) (Replay y) a b =
+    let same : a.0 ≡ b.0 = tail_same (codes "replay") a.0 b.0 (sym a.1 ∙ b.1) in
+    let P : List (List ℕ) → Type 0 = λ rest. IsSchedule rest x in
+    let here : IsSchedule b.0 x = subst P same a.2 in
+    ap Replay (words_same b.0 x y here.words_are b.2.words_are)
+
+-- a command of words that replays is that of `replay`
+replaying : (words : List (List ℕ)) (command : Command) → IsCommand words command → IsReplaying command → IsReplayCommand words
+replaying words Oracle word h = absurd h
+replaying words Check word h = absurd h
+replaying words (Replay schedule) word h = (schedule, word)
 
 -- bytes that were taken whole are those that were left
 all_left : (before : Option (List ℕ)) (xs bytes : List ℕ) → before ≡ Some xs → IfSome before (λ ys. bytes ≡ ys) → bytes ≡ xs
@@ -163,23 +244,45 @@ read_fault_cases Done = inr (λ e. absurd (cc))
 read_fault_cases Usage = inr (λ e. absurd (cc))
 read_fault_cases TooLong = inr (λ e. absurd (cc))
 read_fault_cases (BadFile f) = inr (λ e. absurd (cc))
+read_fault_cases (Unfinished i) = inr (λ e. absurd (cc))
+read_fault_cases (NoBuffer i n) = inr (λ e. absurd (cc))
 read_fault_cases (SendsSpent i) = inr (λ e. absurd (cc))
+read_fault_cases (RoundsSpent i) = inr (λ e. absurd (cc))
 read_fault_cases WriteFault = inr (λ e. absurd (cc))
 read_fault_cases NoMemory = inr (λ e. absurd (cc))
 
--- the file of a federation in which nobody takes number 16,385 causes the text of the command
-file_done : (command : Command) (bytes : List ℕ) (p : Parts) (s : Status) (a : List ℕ) → IsAccepted bytes p → spender p ≡ None → FileCauses command bytes s a → IsThis Done (text_of command p) s a
-file_done command bytes p s a accepted none h = file_same command bytes s Done a (text_of command p) h (p, accepted, (none, refl))
+-- a federation in which nobody takes number 16,385, with enough buffers, causes the answer to the command
+answers_run : (schedule : List ℕ) (p : Parts) (r : Run) (end : End) (s : Status) (a : List ℕ) → IsEnough p end → EndCauses p end s a → Answers (Replay schedule) p s a
+answers_run schedule p r ends.Done s a enough h = inl h
+answers_run schedule p r (ends.Unfinished i) s a enough h = inr (i, h)
+answers_run schedule p r (ends.NoBuffer i n) s a enough h = absurd enough
+answers_run schedule p r (ends.SendsSpent i) s a enough h = absurd enough
+answers_run schedule p r (ends.RoundsSpent i) s a enough h = absurd h
+answers_run schedule p r ends.NoMemory s a enough h = absurd h
+
+federation_answers : (command : Command) (p : Parts) (run : Option Run) (s : Status) (a : List ℕ) → spender p ≡ None → HasBuffers command p → FederationCauses command p run s a → Answers command p s a
+federation_answers Oracle p run s a none buffers h = simulation_same Oracle p s Done a (text_of Oracle p) h (none, refl)
+federation_answers Check p run s a none buffers h = simulation_same Check p s Done a (text_of Check p) h (none, refl)
+federation_answers (Replay schedule) p None s a none buffers h = absurd h
+federation_answers (Replay schedule) p (Some r) s a none buffers h = answers_run schedule p r r.end s a (run_is_enough p schedule r none buffers h.0) h.1
+
+-- and so does its file
+file_answers : (command : Command) (bytes : List ℕ) (p : Parts) (run : Option Run) (s : Status) (a : List ℕ) → IsAccepted bytes p → spender p ≡ None → HasBuffers command p → FileCauses command bytes run s a → Answers command p s a
+file_answers command bytes p run s a accepted none buffers h =
+    elim (file_cases command bytes run s a h) [
+      | inl x ↦ absurd (accepted_not_bad bytes p x.0 accepted x.2)
+      | inr x ↦ (let P : Parts → Type 0 = λ p. FederationCauses command p run s a in federation_answers command p run s a none buffers (subst P (accepted_same bytes x.0 p x.1 accepted) x.2))
+    ]
 
 module _ {S : Type 0} (g : Ghosts S) where
   -- what the words and the input cause, but for a read that failed: what the file causes, or that the input is too
   -- long, or that the words are wrong
-  record Whole (words : List (List ℕ)) (old new : S) (s : Status) (a : List ℕ) : Type 0 where
+  record Whole (words : List (List ℕ)) (old new : S) (run : Option Run) (s : Status) (a : List ℕ) : Type 0 where
     command : Command
     word : IsCommand words command
     bytes : List ℕ
     whole : IsWhole g old new bytes
-    file : FileCauses command bytes s a
+    file : FileCauses command bytes run s a
 
   record Long (words : List (List ℕ)) (old new : S) (s : Status) (a : List ℕ) : Type 0 where
     status : s ≡ TooLong
@@ -188,42 +291,46 @@ module _ {S : Type 0} (g : Ghosts S) where
     took : Took (g.left old) (g.left new) (most_bytes + 1)
     text : a ≡ codes "fault TooLong\n"
 
-  cases : (words : List (List ℕ)) (old new : S) (s : Status) (a : List ℕ) → s ≢ ReadFault → Causes g words old new s a → Whole words old new s a ⊎ (Long words old new s a ⊎ Wrong words s a)
-  cases words old new Usage a other h = inr (inr (record { status = refl; word = h.0; text = h.2 }))
-  cases words old new ReadFault a other h = absurd (other refl)
-  cases words old new TooLong a other h = inr (inl (record { status = refl; command = h.0; word = h.1; took = h.2; text = h.3 }))
-  cases words old new Done a other h = inl (record { command = h.0; word = h.1; bytes = h.2; whole = h.3; file = h.4 })
-  cases words old new (BadFile f) a other h = inl (record { command = h.0; word = h.1; bytes = h.2; whole = h.3; file = h.4 })
-  cases words old new (SendsSpent i) a other h = inl (record { command = h.0; word = h.1; bytes = h.2; whole = h.3; file = h.4 })
-  cases words old new WriteFault a other h = inl (record { command = h.0; word = h.1; bytes = h.2; whole = h.3; file = h.4 })
-  cases words old new NoMemory a other h = inl (record { command = h.0; word = h.1; bytes = h.2; whole = h.3; file = h.4 })
+  cases : (words : List (List ℕ)) (old new : S) (run : Option Run) (s : Status) (a : List ℕ) → s ≢ ReadFault → Causes g words old new run s a → Whole words old new run s a ⊎ (Long words old new s a ⊎ Wrong words s a)
+  cases words old new run Usage a other h = inr (inr (record { status = refl; word = h.0; text = h.2 }))
+  cases words old new run ReadFault a other h = absurd (other refl)
+  cases words old new run TooLong a other h = inr (inl (record { status = refl; command = h.0; word = h.1; took = h.2; text = h.3 }))
+  cases words old new run Done a other h = inl (record { command = h.0; word = h.1; bytes = h.2; whole = h.3; file = h.4 })
+  cases words old new run (BadFile f) a other h = inl (record { command = h.0; word = h.1; bytes = h.2; whole = h.3; file = h.4 })
+  cases words old new run (Unfinished i) a other h = inl (record { command = h.0; word = h.1; bytes = h.2; whole = h.3; file = h.4 })
+  cases words old new run (NoBuffer i n) a other h = inl (record { command = h.0; word = h.1; bytes = h.2; whole = h.3; file = h.4 })
+  cases words old new run (SendsSpent i) a other h = inl (record { command = h.0; word = h.1; bytes = h.2; whole = h.3; file = h.4 })
+  cases words old new run (RoundsSpent i) a other h = inl (record { command = h.0; word = h.1; bytes = h.2; whole = h.3; file = h.4 })
+  cases words old new run WriteFault a other h = inl (record { command = h.0; word = h.1; bytes = h.2; whole = h.3; file = h.4 })
+  cases words old new run NoMemory a other h = inl (record { command = h.0; word = h.1; bytes = h.2; whole = h.3; file = h.4 })
 
-  whole_not_long : (words : List (List ℕ)) (old new : S) (xs : List ℕ) (s t : Status) (a b : List ℕ) → g.left old ≡ Some xs → Whole words old new s a → Long words old new t b → ⊥
-  whole_not_long words old new xs s t a b e x y = not_long (g.left old) (g.left new) xs x.bytes e (all_left (g.left old) xs x.bytes e x.whole.all) x.whole.short y.took
+  whole_not_long : (words : List (List ℕ)) (old new : S) (xs : List ℕ) (run : Option Run) (s t : Status) (a b : List ℕ) → g.left old ≡ Some xs → Whole words old new run s a → Long words old new t b → ⊥
+  whole_not_long words old new xs run s t a b e x y = not_long (g.left old) (g.left new) xs x.bytes e (all_left (g.left old) xs x.bytes e x.whole.all) x.whole.short y.took
 
   -- what bytes that were taken whole cause, the bytes that were left cause, by the command of the words
-  whole_causes : (words : List (List ℕ)) (old new : S) (command : Command) (xs : List ℕ) (s : Status) (a : List ℕ) → g.left old ≡ Some xs → IsCommand words command → Whole words old new s a → FileCauses command xs s a
-  whole_causes words old new command xs s a e word x =
-      let P : List ℕ → Type 0 = λ bytes. FileCauses x.command bytes s a in
-      let Q : Command → Type 0 = λ command. FileCauses command xs s a in
+  whole_causes : (words : List (List ℕ)) (old new : S) (command : Command) (xs : List ℕ) (run : Option Run) (s : Status) (a : List ℕ) → g.left old ≡ Some xs → IsCommand words command → Whole words old new run s a → FileCauses command xs run s a
+  whole_causes words old new command xs run s a e word x =
+      let P : List ℕ → Type 0 = λ bytes. FileCauses x.command bytes run s a in
+      let Q : Command → Type 0 = λ command. FileCauses command xs run s a in
       subst Q (command_same words x.command command x.word word) (subst P (all_left (g.left old) xs x.bytes e x.whole.all) x.file)
 
-  whole_same : (words : List (List ℕ)) (old new : S) (xs : List ℕ) (s t : Status) (a b : List ℕ) → g.left old ≡ Some xs → Whole words old new s a → Whole words old new t b → (s ≡ t) × (a ≡ b)
-  whole_same words old new xs s t a b e x y = file_same x.command xs s t a b (whole_causes words old new x.command xs s a e x.word x) (whole_causes words old new x.command xs t b e x.word y)
+  whole_same : (words : List (List ℕ)) (old new : S) (xs : List ℕ) (q r : Option Run) (s t : Status) (a b : List ℕ) → g.left old ≡ Some xs → (IsReplayCommand words → end_of q ≡ end_of r) → Whole words old new q s a → Whole words old new r t b → (s ≡ t) × (a ≡ b)
+  whole_same words old new xs q r s t a b e alike x y =
+      file_same x.command xs q r s t a b (λ is. alike (replaying words x.command x.word is)) (whole_causes words old new x.command xs q s a e x.word x) (whole_causes words old new x.command xs r t b e x.word y)
 
   pub one_cause_law : OneCause g
-  one_cause_law words old new xs s t a b e not_s not_t h k =
-      elim (cases words old new s a not_s h) [
-        | inl x ↦ elim (cases words old new t b not_t k) [
-          | inl y ↦ whole_same words old new xs s t a b e x y
-          | inr yy ↦ elim yy [ inl y ↦ absurd (whole_not_long words old new xs s t a b e x y) | inr y ↦ absurd (y.word x.command x.word) ]
+  one_cause_law words old new xs q r s t a b e not_s not_t alike h k =
+      elim (cases words old new q s a not_s h) [
+        | inl x ↦ elim (cases words old new r t b not_t k) [
+          | inl y ↦ whole_same words old new xs q r s t a b e alike x y
+          | inr yy ↦ elim yy [ inl y ↦ absurd (whole_not_long words old new xs q s t a b e x y) | inr y ↦ absurd (y.word x.command x.word) ]
         ]
         | inr xx ↦ elim xx [
-          | inl x ↦ elim (cases words old new t b not_t k) [
-            | inl y ↦ absurd (whole_not_long words old new xs t s b a e y x)
+          | inl x ↦ elim (cases words old new r t b not_t k) [
+            | inl y ↦ absurd (whole_not_long words old new xs r t s b a e y x)
             | inr yy ↦ elim yy [ inl y ↦ (x.status ∙ sym y.status, x.text ∙ sym y.text) | inr y ↦ absurd (y.word x.command x.word) ]
           ]
-          | inr x ↦ elim (cases words old new t b not_t k) [
+          | inr x ↦ elim (cases words old new r t b not_t k) [
             | inl y ↦ absurd (x.word y.command y.word)
             | inr yy ↦ elim yy [ inl y ↦ absurd (x.word y.command y.word) | inr y ↦ (x.status ∙ sym y.status, x.text ∙ sym y.text) ]
           ]
@@ -231,11 +338,11 @@ module _ {S : Type 0} (g : Ghosts S) where
       ]
 
   pub completes_law : Completes g
-  completes_law words old new command p s a can h =
+  completes_law words old new command p run s a can h =
       elim (read_fault_cases s) [
         | inl fault ↦ inr fault
-        | inr other ↦ elim (cases words old new s a other h) [
-          | inl x ↦ inl (file_done command can.input p s a can.accepted can.within (whole_causes words old new command can.input s a can.told can.word x))
+        | inr other ↦ elim (cases words old new run s a other h) [
+          | inl x ↦ inl (file_answers command can.input p run s a can.accepted can.within can.buffers (whole_causes words old new command can.input run s a can.told can.word x))
           | inr xx ↦ elim xx [
             | inl x ↦ absurd (not_long (g.left old) (g.left new) can.input can.input can.told refl can.short x.took)
             | inr x ↦ absurd (x.word command can.word)

@@ -1,15 +1,24 @@
 -- What was told for one set of causes was told for another that follows from it.
-use Rattle.std.proofs.Common.{◌≡◌, ◌≢◌, List, ℕ, Option, Some, refl, sym, subst}
+use Rattle.std.proofs.Common.{◌≡◌, ◌≢◌, List, [], ℕ, Option, Some, None, IfSome, refl, sym, subst}
 use Rattle.std.specs.Io.KnownBytes.{Appends}
+use Rattle.kit_node.specs.declared.ends.End.{End}
+use Rattle.kit_node.specs.declared.ends.End.TheVariants as ends
 use Rattle.kit_top.specs.declared.command.Command.{Command}
+use Rattle.kit_top.specs.declared.command.Command.TheVariants.{Oracle, Check, Replay}
+use Rattle.kit_top.specs.declared.ended.Ended.{Ended}
 use Rattle.kit_top.specs.declared.status.Status.{Status}
-use Rattle.kit_top.specs.declared.status.Status.TheVariants.{Done, Usage, ReadFault, TooLong, BadFile, SendsSpent, WriteFault, NoMemory}
+use Rattle.kit_top.specs.declared.status.Status.TheVariants.{Done, Usage, ReadFault, TooLong, BadFile, Unfinished, NoBuffer, SendsSpent, RoundsSpent, WriteFault, NoMemory}
 use Rattle.kit_io.specs.declared.source.Source.{Ghosts}
 use Rattle.kit_rules.specs.Parts.{Parts}
+use Rattle.kit_rules.specs.Simulation.{spender}
+use Rattle.kit_rules.specs.Text.{simulation_text}
+use Rattle.kit_oracle.specs.Ends.{IfSpentAt}
+use Rattle.kit_oracle.specs.declared.end.OracleEnd.{OracleEnd}
+use Rattle.kit_oracle.specs.declared.end.OracleEnd.TheVariants as oracle
 use Rattle.kit_file.specs.declared.fault.FileFault.{FileFault}
 use Rattle.kit_file.specs.declared.fault.FileFault.TheVariants as file
 use Rattle.kit_file.specs.Answers.{IsAccepted, IsFaultAtPath, IsNoJson}
-use Rattle.kit_top.specs.Causes.{Told, Causes, FileCauses, FederationCauses, HasText, IsCommand, IsWhole, IsBadFile, IsTheFault, IsThis, IsAnswered}
+use Rattle.kit_top.specs.Causes.{Told, Causes, EndCauses, EndsWith, OracleEndCauses, FileCauses, FederationCauses, HasText, IsCommand, IsEnded, IsWhole, IsWithin, IsBadFile, IsTheFault, IsThis, IsAnswered, Run, SimulationCauses, text_of}
 
 pub told_weaker : (A B : Status → List ℕ → Type 0) (old new : Option (List ℕ)) (s : Status) → ((s : Status) (text : List ℕ) → A s text → B s text) → Told A old new s → Told B old new s
 told_weaker A B old new Done f h = (h.0, f Done h.0 h.1, h.2)
@@ -17,31 +26,76 @@ told_weaker A B old new Usage f h = (h.0, f Usage h.0 h.1, h.2)
 told_weaker A B old new ReadFault f h = (h.0, f ReadFault h.0 h.1, h.2)
 told_weaker A B old new TooLong f h = (h.0, f TooLong h.0 h.1, h.2)
 told_weaker A B old new (BadFile x) f h = (h.0, f (BadFile x) h.0 h.1, h.2)
+told_weaker A B old new (Unfinished i) f h = (h.0, f (Unfinished i) h.0 h.1, h.2)
+told_weaker A B old new (NoBuffer i n) f h = (h.0, f (NoBuffer i n) h.0 h.1, h.2)
 told_weaker A B old new (SendsSpent i) f h = (h.0, f (SendsSpent i) h.0 h.1, h.2)
+told_weaker A B old new (RoundsSpent i) f h = (h.0, f (RoundsSpent i) h.0 h.1, h.2)
 told_weaker A B old new WriteFault f h = (h.0, h.1, f h.0 h.1 h.2, h.3, h.4, h.5)
 told_weaker A B old new NoMemory f h = h
 
--- what a federation causes, a file of it causes
-pub file_causes : (command : Command) (bytes : List ℕ) (p : Parts) → IsAccepted bytes p → (s : Status) (text : List ℕ) → FederationCauses command p s text → FileCauses command bytes s text
-file_causes command bytes p form Done text h = (p, form, h)
-file_causes command bytes p form Usage text h = absurd h
-file_causes command bytes p form ReadFault text h = absurd h
-file_causes command bytes p form TooLong text h = absurd h
-file_causes command bytes p form (BadFile x) text h = absurd h
-file_causes command bytes p form (SendsSpent i) text h = (p, form, h)
-file_causes command bytes p form WriteFault text h = absurd h
-file_causes command bytes p form NoMemory text h = absurd h
+-- the statuses that a federation may cause
+abbrev IsRunStatus : Status → Type 0
+IsRunStatus Done = Unit {0}
+IsRunStatus (Unfinished i) = Unit {0}
+IsRunStatus (NoBuffer i n) = Unit {0}
+IsRunStatus (SendsSpent i) = Unit {0}
+IsRunStatus _ = ⊥
 
--- what a command makes of a file, its word and a source that was read whole cause
-pub command_causes : {S : Type 0} (g : Ghosts S) (words : List (List ℕ)) (old new : S) (command : Command) (bytes : List ℕ) → IsCommand words command → IsWhole g old new bytes → (s : Status) (text : List ℕ) → FileCauses command bytes s text → Causes g words old new s text
-command_causes g words old new command bytes word whole Done text h = (command, word, bytes, whole, h)
-command_causes g words old new command bytes word whole Usage text h = absurd h.2
-command_causes g words old new command bytes word whole ReadFault text h = absurd h.2
-command_causes g words old new command bytes word whole TooLong text h = absurd h.2
-command_causes g words old new command bytes word whole (BadFile x) text h = (command, word, bytes, whole, h)
-command_causes g words old new command bytes word whole (SendsSpent i) text h = (command, word, bytes, whole, h)
-command_causes g words old new command bytes word whole WriteFault text h = (command, word, bytes, whole, h)
-command_causes g words old new command bytes word whole NoMemory text h = (command, word, bytes, whole, h)
+simulation_status : (command : Command) (p : Parts) (s : Status) (text : List ℕ) → SimulationCauses command p s text → IsRunStatus s
+simulation_status command p Done text h = tt
+simulation_status command p (SendsSpent i) text h = tt
+simulation_status command p Usage text h = absurd h
+simulation_status command p ReadFault text h = absurd h
+simulation_status command p TooLong text h = absurd h
+simulation_status command p (BadFile x) text h = absurd h
+simulation_status command p (Unfinished i) text h = absurd h
+simulation_status command p (NoBuffer i n) text h = absurd h
+simulation_status command p (RoundsSpent i) text h = absurd h
+simulation_status command p WriteFault text h = absurd h
+simulation_status command p NoMemory text h = absurd h
+
+end_status : (p : Parts) (end : End) (s : Status) (text : List ℕ) → EndCauses p end s text → IsRunStatus s
+end_status p ends.Done s text h = subst IsRunStatus (sym h.0) tt
+end_status p (ends.Unfinished i) s text h = subst IsRunStatus (sym h.0) tt
+end_status p (ends.NoBuffer i n) s text h = subst IsRunStatus (sym h.0) tt
+end_status p (ends.SendsSpent i) s text h = subst IsRunStatus (sym h.0) tt
+end_status p (ends.RoundsSpent i) s text h = absurd h
+end_status p ends.NoMemory s text h = absurd h
+
+federation_status : (command : Command) (p : Parts) (run : Option Run) (s : Status) (text : List ℕ) → FederationCauses command p run s text → IsRunStatus s
+federation_status Oracle p run s text h = simulation_status Oracle p s text h
+federation_status Check p run s text h = simulation_status Check p s text h
+federation_status (Replay schedule) p None s text h = absurd h
+federation_status (Replay schedule) p (Some r) s text h = end_status p r.end s text h.1
+
+-- what a federation causes, a file of it causes
+pub file_causes : (command : Command) (bytes : List ℕ) (p : Parts) (run : Option Run) → IsAccepted bytes p → (s : Status) (text : List ℕ) → FederationCauses command p run s text → FileCauses command bytes run s text
+file_causes command bytes p run form (BadFile x) text h = absurd (federation_status command p run (BadFile x) text h)
+file_causes command bytes p run form Done text h = (p, form, h)
+file_causes command bytes p run form Usage text h = (p, form, h)
+file_causes command bytes p run form ReadFault text h = (p, form, h)
+file_causes command bytes p run form TooLong text h = (p, form, h)
+file_causes command bytes p run form (Unfinished i) text h = (p, form, h)
+file_causes command bytes p run form (NoBuffer i n) text h = (p, form, h)
+file_causes command bytes p run form (SendsSpent i) text h = (p, form, h)
+file_causes command bytes p run form (RoundsSpent i) text h = (p, form, h)
+file_causes command bytes p run form WriteFault text h = (p, form, h)
+file_causes command bytes p run form NoMemory text h = (p, form, h)
+
+-- what a command makes of a file, its words and a source that was read whole cause
+pub command_causes : {S : Type 0} (g : Ghosts S) (words : List (List ℕ)) (old new : S) (command : Command) (bytes : List ℕ) (run : Option Run) → IsCommand words command → IsWhole g old new bytes → (s : Status) (text : List ℕ)
+    → FileCauses command bytes run s text → Causes g words old new run s text
+command_causes g words old new command bytes run word whole Done text h = (command, word, bytes, whole, h)
+command_causes g words old new command bytes run word whole Usage text h = absurd (federation_status command h.0 run Usage text h.2)
+command_causes g words old new command bytes run word whole ReadFault text h = absurd (federation_status command h.0 run ReadFault text h.2)
+command_causes g words old new command bytes run word whole TooLong text h = absurd (federation_status command h.0 run TooLong text h.2)
+command_causes g words old new command bytes run word whole (BadFile x) text h = (command, word, bytes, whole, h)
+command_causes g words old new command bytes run word whole (Unfinished i) text h = (command, word, bytes, whole, h)
+command_causes g words old new command bytes run word whole (NoBuffer i n) text h = (command, word, bytes, whole, h)
+command_causes g words old new command bytes run word whole (SendsSpent i) text h = (command, word, bytes, whole, h)
+command_causes g words old new command bytes run word whole (RoundsSpent i) text h = (command, word, bytes, whole, h)
+command_causes g words old new command bytes run word whole WriteFault text h = (command, word, bytes, whole, h)
+command_causes g words old new command bytes run word whole NoMemory text h = (command, word, bytes, whole, h)
 
 -- what the reader of files says of a fault
 bad_file : (bytes : List ℕ) (f : FileFault) → IsFaultAtPath bytes f → (f ≡ file.NotJson → IsNoJson bytes) → f ≢ file.NoMemory → IsBadFile bytes f
@@ -56,9 +110,9 @@ bad_file bytes (file.NotRegulating path) at not_json other = at
 bad_file bytes file.NoMemory at not_json other = absurd (other refl)
 
 -- that fault, with its line, is caused by the file
-pub bad_file_causes : (command : Command) (bytes : List ℕ) (f : FileFault) → IsFaultAtPath bytes f → (f ≡ file.NotJson → IsNoJson bytes) → (s : Status) (text : List ℕ) → IsTheFault f s text → FileCauses command bytes s text
-bad_file_causes command bytes f at not_json s text h =
-    let P : Status → Type 0 = λ s. FileCauses command bytes s text in
+pub bad_file_causes : (command : Command) (bytes : List ℕ) (run : Option Run) (f : FileFault) → IsFaultAtPath bytes f → (f ≡ file.NotJson → IsNoJson bytes) → (s : Status) (text : List ℕ) → IsTheFault f s text → FileCauses command bytes run s text
+bad_file_causes command bytes run f at not_json s text h =
+    let P : Status → Type 0 = λ s. FileCauses command bytes run s text in
     subst P (sym h.1.0) (bad_file bytes f at not_json h.0, h.1.1)
 
 -- a status with its text that is told is that status, told
@@ -68,7 +122,10 @@ told_as Usage words old new has h = (words, (refl, refl), h)
 told_as ReadFault words old new has h = (words, (refl, refl), h)
 told_as TooLong words old new has h = (words, (refl, refl), h)
 told_as (BadFile x) words old new has h = (words, (refl, refl), h)
+told_as (Unfinished i) words old new has h = (words, (refl, refl), h)
+told_as (NoBuffer i n) words old new has h = (words, (refl, refl), h)
 told_as (SendsSpent i) words old new has h = (words, (refl, refl), h)
+told_as (RoundsSpent i) words old new has h = (words, (refl, refl), h)
 told_as WriteFault words old new has h = absurd has
 told_as NoMemory words old new has h = absurd has
 
@@ -82,15 +139,31 @@ told_by A status words old new s cause h = told_weaker (IsThis status words) A o
         let Q : List ℕ → Type 0 = λ text. A s text in
         subst Q (sym is.1) (subst P (sym is.0) cause)
 
+-- Done has the text that the command asks for
+end_done : (p : Parts) (end : End) (text : List ℕ) → EndCauses p end Done text → text ≡ simulation_text p
+end_done p ends.Done text h = h.1
+end_done p (ends.Unfinished i) text h = let e : Done ≡ Unfinished i = h.0 in absurd (cc)
+end_done p (ends.NoBuffer i n) text h = let e : Done ≡ NoBuffer i n = h.0 in absurd (cc)
+end_done p (ends.SendsSpent i) text h = let e : Done ≡ SendsSpent i = h.0 in absurd (cc)
+end_done p (ends.RoundsSpent i) text h = absurd h
+end_done p ends.NoMemory text h = absurd h
+
+federation_done : (command : Command) (p : Parts) (run : Option Run) (text : List ℕ) → FederationCauses command p run Done text → IsWithin command p × (text ≡ text_of command p)
+federation_done Oracle p run text h = (h.0, h.1)
+federation_done Check p run text h = (h.0, h.1)
+federation_done (Replay schedule) p None text h = absurd h
+federation_done (Replay schedule) p (Some r) text h = (tt, end_done p r.end text h.1)
+
 -- what was told as Done is what the command asks
-pub answered_told : {S : Type 0} (g : Ghosts S) (words : List (List ℕ)) (from to : S) (old new : Option (List ℕ)) (s : Status) → s ≡ Done → Told (Causes g words from to) old new s → IsAnswered g words from to old new
-answered_told g words from to old new s e h =
-    let T : Status → Type 0 = λ s. Told (Causes g words from to) old new s in
-    done (subst T e h)
+pub answered_told : {S : Type 0} (g : Ghosts S) (words : List (List ℕ)) (from to : S) (old new : Option (List ℕ)) (ended : Ended) → ended.status ≡ Done → IsEnded g words from to old new ended → IsAnswered g words from to old new
+answered_told g words from to old new ended e h =
+    let T : Status → Type 0 = λ s. Told (Causes g words from to h.run) old new s in
+    done h.run (subst T e h.told)
   where
-    done : Told (Causes g words from to) old new Done → IsAnswered g words from to old new
-    done told =
+    done : (run : Option Run) → Told (Causes g words from to run) old new Done → IsAnswered g words from to old new
+    done run told =
         let cause = told.1 in
+        let asked = federation_done cause.0 cause.4.0 run told.0 cause.4.2 in
         let P : List ℕ → Type 0 = λ text. Appends old new text in
         record {
           command = cause.0;
@@ -99,6 +172,34 @@ answered_told g words from to old new s e h =
           whole = cause.3;
           federation = cause.4.0;
           accepted = cause.4.1;
-          within = cause.4.2.0;
-          written = subst P cause.4.2.1 told.2;
+          within = asked.0;
+          written = subst P asked.1 told.2;
         }
+
+-- an end that left nothing
+pub ends_empty : (A : Option Run → Status → List ℕ → Type 0) (R : Run → Type 0) (old new : Option (List ℕ)) (ended : Ended) (status : Status) → ended.status ≡ status → ended.nodes.items ≡ [] → ended.floor ≡ None
+    → Told (A None) old new status → EndsWith A R old new ended
+ends_empty A R old new ended status e none floor h =
+    let T : Status → Type 0 = λ s. Told (A None) old new s in
+    record { run = None; replayed = tt; left = (none, floor); told = subst T (sym e) h }
+
+if_some_weaker : (run : Option Run) (R Q : Run → Type 0) → ((r : Run) → R r → Q r) → IfSome run R → IfSome run Q
+if_some_weaker None R Q f h = tt
+if_some_weaker (Some r) R Q f h = f r h
+
+-- what ends by some causes ends by those that follow from them
+pub ends_weaker : (A B : Option Run → Status → List ℕ → Type 0) (R Q : Run → Type 0) (old new : Option (List ℕ)) (ended : Ended) → ((run : Option Run) (s : Status) (text : List ℕ) → A run s text → B run s text) → ((r : Run) → R r → Q r)
+    → EndsWith A R old new ended → EndsWith B Q old new ended
+ends_weaker A B R Q old new ended causes runs h = record {
+  run = h.run;
+  replayed = if_some_weaker h.run R Q runs h.replayed;
+  left = h.left;
+  told = told_weaker (A h.run) (B h.run) old new ended.status (causes h.run) h.told;
+}
+
+-- a simulation that ended without a text is that of its command
+pub oracle_causes : (command : Command) (p : Parts) (end : OracleEnd) → IfSpentAt end (λ i. spender p ≡ Some i) → (s : Status) (text : List ℕ) → OracleEndCauses p end s text → SimulationCauses command p s text
+oracle_causes command p (oracle.SendsSpent i) spent s text h =
+    let P : Status → Type 0 = λ s. SimulationCauses command p s text in
+    subst P (sym h.0) (spent, h.1)
+oracle_causes command p oracle.NoMemory spent s text h = absurd h

@@ -1,28 +1,39 @@
--- Which status the words and the input cause, and what is written for it.
-use Rattle.std.specs.Prelude.{◌≡◌, ◌≢◌, ℕ, ◌+◌, ◌<◌, ◌≤◌, List, [], ◌∷◌, ◌++◌, length, take, codes, ◌⊎◌, Option, Some, None, IfSome}
+-- Which status the words, the input and what was replayed cause, and what is written for it.
+use Rattle.std.specs.Prelude.{◌≡◌, ◌≢◌, ℕ, ◌+◌, ◌-◌, ◌^◌, ◌<◌, ◌≤◌, List, [], ◌∷◌, ◌++◌, length, take, codes, decimal, ◌⊎◌, Option, Some, None, IfSome}
 use Rattle.std.specs.Io.KnownBytes.{Appends}
 use Rattle.kit_io.specs.declared.source.Source.{Ghosts}
 use Rattle.kit_io.specs.Causes.{Rose, Took, TookAtMost}
 use Rattle.kit_io.specs.Reading.{ShowsEnd}
 use Rattle.kit_rules.specs.Parts.{Parts, federate_at}
+use Rattle.kit_rules.specs.Need.{need_of}
 use Rattle.kit_rules.specs.Simulation.{spender}
 use Rattle.kit_rules.specs.Text.{simulation_text, check_text}
 use Rattle.kit_file.specs.declared.fault.FileFault.{FileFault}
 use Rattle.kit_file.specs.declared.fault.FileFault.TheVariants as file
 use Rattle.kit_file.specs.Answers.{IsAccepted, IsFirstFault, IsNoJson}
+use Rattle.kit_schedule.specs.Schedules.{IsSchedule}
+use Rattle.kit_node.specs.declared.ends.End.{End}
+use Rattle.kit_node.specs.declared.ends.End.TheVariants as ends
+use Rattle.kit_node.specs.declared.node.NodeReport.{NodeReport}
+use Rattle.kit_oracle.specs.declared.end.OracleEnd.{OracleEnd}
+use Rattle.kit_oracle.specs.declared.end.OracleEnd.TheVariants as oracle
+use Rattle.kit_replay.specs.Replays.{IsReplayed, LbtsFloor}
+use Rattle.kit_replay.specs.Reports.{AreWholeParts}
 use Rattle.kit_top.specs.declared.command.Command.{Command}
-use Rattle.kit_top.specs.declared.command.Command.TheVariants.{Oracle, Check}
+use Rattle.kit_top.specs.declared.command.Command.TheVariants.{Oracle, Check, Replay}
+use Rattle.kit_top.specs.declared.ended.Ended.{Ended}
 use Rattle.kit_top.specs.declared.status.Status.{Status}
-use Rattle.kit_top.specs.declared.status.Status.TheVariants.{Done, Usage, ReadFault, TooLong, BadFile, SendsSpent, WriteFault, NoMemory}
+use Rattle.kit_top.specs.declared.status.Status.TheVariants.{Done, Usage, ReadFault, TooLong, BadFile, Unfinished, NoBuffer, SendsSpent, WriteFault, NoMemory}
 
--- the word of a command
-abbrev pub word_of : Command → List ℕ
-word_of Oracle = codes "oracle"
-word_of Check = codes "check"
-
--- the words are the one word of a command
+-- the words are those of a command: its one word, or `replay` and the words of its schedule
 abbrev pub IsCommand : List (List ℕ) → Command → Type 0
-IsCommand words command = words ≡ word_of command ∷ []
+IsCommand words Oracle = words ≡ codes "oracle" ∷ []
+IsCommand words Check = words ≡ codes "check" ∷ []
+IsCommand words (Replay schedule) = (rest : List (List ℕ)) × (words ≡ codes "replay" ∷ rest) × IsSchedule rest schedule
+
+-- they are those of `replay`
+abbrev pub IsReplayCommand : List (List ℕ) → Type 0
+IsReplayCommand words = (schedule : List ℕ) × IsCommand words (Replay schedule)
 
 -- the words are those of no command
 abbrev pub IsNoCommand : List (List ℕ) → Type 0
@@ -32,6 +43,26 @@ IsNoCommand words = (command : Command) → IsCommand words command → ⊥
 abbrev pub text_of : Command → Parts → List ℕ
 text_of Oracle p = simulation_text p
 text_of Check p = check_text p
+text_of (Replay schedule) p = simulation_text p
+
+-- WHAT WAS REPLAYED: how the run ended, the reports of its nodes, and its floor
+pub record Run : Type 0 where
+  pub end : End
+  pub reports : List NodeReport
+  pub floor : Option LbtsFloor
+
+-- the most rounds that a node takes part in
+abbrev pub most_rounds : ℕ
+most_rounds = 2 ^ 40 - 1
+
+-- the run was one of this federation, with the turns of this schedule
+abbrev pub IsRunOf : Parts → List ℕ → Run → Type 0
+IsRunOf p schedule r = IsReplayed p schedule most_rounds r.end r.reports r.floor
+
+-- how it ended, if there was one
+abbrev pub end_of : Option Run → Option End
+end_of None = None
+end_of (Some r) = Some r.end
 
 -- the most bytes of an input
 abbrev pub most_bytes : ℕ
@@ -45,19 +76,62 @@ pub record IsWhole {S : Type 0} (g : Ghosts S) (old new : S) (bytes : List ℕ) 
   pub all : IfSome (g.left old) (λ xs. bytes ≡ xs)
   pub emptied : IfSome (g.left old) (λ _. g.left new ≡ Some [])
 
--- the line of a federate that takes number 16,385
-abbrev pub spent_text : Parts → ℕ → List ℕ
-spent_text p i = codes "fault SendsSpent " ++ (federate_at p i).name ++ codes "\n"
-
--- what a command makes of a federation
-abbrev pub FederationCauses : Command → Parts → Status → List ℕ → Type 0
-FederationCauses command p Done text = (spender p ≡ None) × (text ≡ text_of command p)
-FederationCauses command p (SendsSpent i) text = (spender p ≡ Some i) × (text ≡ spent_text p i)
-FederationCauses command p _ text = ⊥
-
 -- this status, with this text
 abbrev pub IsThis : Status → List ℕ → Status → List ℕ → Type 0
 IsThis status words s text = (s ≡ status) × (text ≡ words)
+
+-- the line of a fault with a federate's name
+abbrev pub federate_text : List ℕ → Parts → ℕ → List ℕ
+federate_text kind p i = codes "fault " ++ kind ++ codes " " ++ (federate_at p i).name ++ codes "\n"
+
+-- that of a federate that takes number 16,385
+abbrev pub spent_text : Parts → ℕ → List ℕ
+spent_text p i = federate_text (codes "SendsSpent") p i
+
+-- and that of one which has no buffer for the message of this number
+abbrev pub no_buffer_text : Parts → ℕ → ℕ → List ℕ
+no_buffer_text p i number = codes "fault NoBuffer " ++ (federate_at p i).name ++ codes " " ++ decimal number ++ codes "\n"
+
+-- what the simulation of a federation causes
+abbrev pub SimulationCauses : Command → Parts → Status → List ℕ → Type 0
+SimulationCauses command p Done text = (spender p ≡ None) × (text ≡ text_of command p)
+SimulationCauses command p (SendsSpent i) text = (spender p ≡ Some i) × (text ≡ spent_text p i)
+SimulationCauses command p _ text = ⊥
+
+-- what the end of a simulation without a text causes
+abbrev pub OracleEndCauses : Parts → OracleEnd → Status → List ℕ → Type 0
+OracleEndCauses p (oracle.SendsSpent i) s text = IsThis (SendsSpent i) (spent_text p i) s text
+OracleEndCauses p oracle.NoMemory s text = ⊥
+
+-- what the end of a replay is told by: its federate, or, where it is Done, whole reports; a schedule ends before the rounds
+-- that there may be
+abbrev pub CanTell : Parts → List NodeReport → End → Type 0
+CanTell p reports ends.Done = AreWholeParts p reports
+CanTell p reports (ends.Unfinished i) = i < length p.federates
+CanTell p reports (ends.NoBuffer i number) = i < length p.federates
+CanTell p reports (ends.SendsSpent i) = i < length p.federates
+CanTell p reports (ends.RoundsSpent i) = ⊥
+CanTell p reports ends.NoMemory = Unit {0}
+
+-- what the end of a replay causes
+abbrev pub EndCauses : Parts → End → Status → List ℕ → Type 0
+EndCauses p ends.Done s text = IsThis Done (simulation_text p) s text
+EndCauses p (ends.Unfinished i) s text = IsThis (Unfinished i) (federate_text (codes "Unfinished") p i) s text
+EndCauses p (ends.NoBuffer i number) s text = IsThis (NoBuffer i number) (no_buffer_text p i number) s text
+EndCauses p (ends.SendsSpent i) s text = IsThis (SendsSpent i) (spent_text p i) s text
+EndCauses p (ends.RoundsSpent i) s text = ⊥
+EndCauses p ends.NoMemory s text = ⊥
+
+-- what a replay with a schedule causes
+abbrev pub ReplayCauses : List ℕ → Parts → Option Run → Status → List ℕ → Type 0
+ReplayCauses schedule p None s text = ⊥
+ReplayCauses schedule p (Some r) s text = IsRunOf p schedule r × EndCauses p r.end s text
+
+-- what a command makes of a federation
+abbrev pub FederationCauses : Command → Parts → Option Run → Status → List ℕ → Type 0
+FederationCauses (Replay schedule) p run s text = ReplayCauses schedule p run s text
+FederationCauses Oracle p run s text = SimulationCauses Oracle p s text
+FederationCauses Check p run s text = SimulationCauses Check p s text
 
 -- the line of a fault with its path
 abbrev pub path_text : List ℕ → List ℕ → List ℕ
@@ -92,17 +166,17 @@ abbrev pub IsTheFault : FileFault → Status → List ℕ → Type 0
 IsTheFault fault s text = (fault ≢ file.NoMemory) × IsThis (BadFile fault) (bad_file_text fault) s text
 
 -- what a command makes of the bytes of a file
-abbrev pub FileCauses : Command → List ℕ → Status → List ℕ → Type 0
-FileCauses command bytes (BadFile fault) text = IsBadFile bytes fault × (text ≡ bad_file_text fault)
-FileCauses command bytes s text = (p : Parts) × IsAccepted bytes p × FederationCauses command p s text
+abbrev pub FileCauses : Command → List ℕ → Option Run → Status → List ℕ → Type 0
+FileCauses command bytes run (BadFile fault) text = IsBadFile bytes fault × (text ≡ bad_file_text fault)
+FileCauses command bytes run s text = (p : Parts) × IsAccepted bytes p × FederationCauses command p run s text
 
--- the status that the words and the input cause, and its text; the source was the one and is the other
-abbrev pub Causes : {S : Type 0} → Ghosts S → List (List ℕ) → S → S → Status → List ℕ → Type 0
-Causes g words old new Usage text = IsNoCommand words × (new ≡ old) × (text ≡ codes "fault Usage\n")
-Causes g words old new ReadFault text =
+-- the status that the words, the input and what was replayed cause, and its text; the source was the one and is the other
+abbrev pub Causes : {S : Type 0} → Ghosts S → List (List ℕ) → S → S → Option Run → Status → List ℕ → Type 0
+Causes g words old new run Usage text = IsNoCommand words × (new ≡ old) × (text ≡ codes "fault Usage\n")
+Causes g words old new run ReadFault text =
     (command : Command) × IsCommand words command × Rose (g.faults old) (g.faults new) × TookAtMost (g.left old) (g.left new) most_bytes × (text ≡ codes "fault ReadFault\n")
-Causes g words old new TooLong text = (command : Command) × IsCommand words command × Took (g.left old) (g.left new) (most_bytes + 1) × (text ≡ codes "fault TooLong\n")
-Causes g words old new s text = (command : Command) × IsCommand words command × (bytes : List ℕ) × IsWhole g old new bytes × FileCauses command bytes s text
+Causes g words old new run TooLong text = (command : Command) × IsCommand words command × Took (g.left old) (g.left new) (most_bytes + 1) × (text ≡ codes "fault TooLong\n")
+Causes g words old new run s text = (command : Command) × IsCommand words command × (bytes : List ℕ) × IsWhole g old new bytes × FileCauses command bytes run s text
 
 -- a status with its text, of which these are the causes, was written: whole, or a front of it where the sink
 -- failed, or nothing where there was no memory
@@ -117,6 +191,11 @@ HasText WriteFault = ⊥
 HasText NoMemory = ⊥
 HasText s = Unit {0}
 
+-- nobody takes number 16,385 in the simulation that `oracle` and `check` run
+abbrev pub IsWithin : Command → Parts → Type 0
+IsWithin (Replay schedule) p = Unit {0}
+IsWithin _ p = spender p ≡ None
+
 -- the promise of each command: the input is a federation file, and what was written is what the command asks of it
 pub record IsAnswered {S : Type 0} (g : Ghosts S) (words : List (List ℕ)) (from to : S) (old new : Option (List ℕ)) : Type 0 where
   pub command : Command
@@ -125,11 +204,44 @@ pub record IsAnswered {S : Type 0} (g : Ghosts S) (words : List (List ℕ)) (fro
   pub whole : IsWhole g from to input
   pub federation : Parts
   pub accepted : IsAccepted input federation
-  pub within : spender federation ≡ None
+  pub within : IsWithin command federation
   pub written : Appends old new (text_of command federation)
 
+-- what is left is what the run left; nothing, where there was none
+abbrev pub IsLeft : Option Run → List NodeReport → Option LbtsFloor → Type 0
+IsLeft None reports floor = (reports ≡ []) × (floor ≡ None)
+IsLeft (Some r) reports floor = (reports ≡ r.reports) × (floor ≡ r.floor)
+
+-- an end by these causes: what was replayed, if anything was, what that left, and what was told
+pub record EndsWith (causes : Option Run → Status → List ℕ → Type 0) (replays : Run → Type 0) (old new : Option (List ℕ)) (ended : Ended) : Type 0 where
+  pub run : Option Run
+  pub replayed : IfSome run replays
+  pub left : IsLeft run ended.nodes.items ended.floor
+  pub told : Told (causes run) old new ended.status
+
+-- a run for a command and a federation, for a file of one, and for the words and the input
+abbrev pub IsFederationRun : Command → Parts → Run → Type 0
+IsFederationRun (Replay schedule) p r = IsRunOf p schedule r
+IsFederationRun Oracle p r = ⊥
+IsFederationRun Check p r = ⊥
+
+abbrev pub IsFileRun : Command → List ℕ → Run → Type 0
+IsFileRun command bytes r = (p : Parts) × IsAccepted bytes p × IsFederationRun command p r
+
+abbrev pub IsRun : {S : Type 0} → Ghosts S → List (List ℕ) → S → S → Run → Type 0
+IsRun g words old new r = (command : Command) × IsCommand words command × (bytes : List ℕ) × IsWhole g old new bytes × IsFileRun command bytes r
+
+-- HOW A CALL ENDED
+abbrev pub IsEnded : {S : Type 0} → Ghosts S → List (List ℕ) → S → S → Option (List ℕ) → Option (List ℕ) → Ended → Type 0
+IsEnded g words from to old new ended = EndsWith (Causes g words from to) (IsRun g words from to) old new ended
+
+-- there are as many buffers as each federate needs, where a command runs over buffers
+abbrev pub HasBuffers : Command → Parts → Type 0
+HasBuffers (Replay schedule) p = (i : ℕ) → i < length p.federates → need_of p i ≤ p.buffers
+HasBuffers _ p = Unit {0}
+
 -- the words are those of the command, the source tells its bytes, they are not too many, they are the file of the
--- federation, and nobody takes number 16,385 in its simulation
+-- federation, nobody takes number 16,385 in its simulation, and there are enough buffers
 pub record CanAnswer {S : Type 0} (g : Ghosts S) (words : List (List ℕ)) (old : S) (command : Command) (federation : Parts) : Type 0 where
   pub word : IsCommand words command
   pub input : List ℕ
@@ -137,15 +249,22 @@ pub record CanAnswer {S : Type 0} (g : Ghosts S) (words : List (List ℕ)) (old 
   pub short : length input ≤ most_bytes
   pub accepted : IsAccepted input federation
   pub within : spender federation ≡ None
+  pub buffers : HasBuffers command federation
+
+-- what a command that can be answered causes
+abbrev pub Answers : Command → Parts → Status → List ℕ → Type 0
+Answers (Replay schedule) p s text = IsThis Done (simulation_text p) s text ⊎ (i : ℕ) × IsThis (Unfinished i) (federate_text (codes "Unfinished") p i) s text
+Answers command p s text = IsThis Done (text_of command p) s text
 
 module _ {S : Type 0} (g : Ghosts S) where
-  -- where the source tells its bytes, and no read failed, the words and the input cause one status and one text
+  -- where the source tells its bytes, and no read failed, the words and the input, and for `replay` how the run ended,
+  -- cause one status and one text
   abbrev pub OneCause : Type 0
-  OneCause = (words : List (List ℕ)) (old new : S) (xs : List ℕ) (s t : Status) (a b : List ℕ) → g.left old ≡ Some xs → s ≢ ReadFault → t ≢ ReadFault
-      → Causes g words old new s a → Causes g words old new t b → (s ≡ t) × (a ≡ b)
+  OneCause = (words : List (List ℕ)) (old new : S) (xs : List ℕ) (q r : Option Run) (s t : Status) (a b : List ℕ) → g.left old ≡ Some xs → s ≢ ReadFault → t ≢ ReadFault
+      → (IsReplayCommand words → end_of q ≡ end_of r) → Causes g words old new q s a → Causes g words old new r t b → (s ≡ t) × (a ≡ b)
 
-  -- where a command can answer, what the words and the input cause is Done, with the text that the command asks for,
-  -- or that a read failed
+  -- where a command can answer, what is caused is Done, with the text that the command asks for, or that a read failed;
+  -- for `replay` it may also be that the run did not finish
   abbrev pub Completes : Type 0
-  Completes = (words : List (List ℕ)) (old new : S) (command : Command) (federation : Parts) (s : Status) (text : List ℕ)
-      → CanAnswer g words old command federation → Causes g words old new s text → IsThis Done (text_of command federation) s text ⊎ (s ≡ ReadFault)
+  Completes = (words : List (List ℕ)) (old new : S) (command : Command) (federation : Parts) (run : Option Run) (s : Status) (text : List ℕ)
+      → CanAnswer g words old command federation → Causes g words old new run s text → Answers command federation s text ⊎ (s ≡ ReadFault)

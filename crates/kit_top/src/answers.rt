@@ -2,42 +2,22 @@
 
 ghost use Rattle.std.specs.Prelude.{◌≡◌, ◌<◌, None, Some, length, IfOk, OnOk};
 ghost use Rattle.kit_io.specs.Causes.{Rose};
-ghost use Rattle.kit_oracle.specs.Ends.{IfSpent};
+ghost use Rattle.kit_oracle.specs.Ends.{IfSpent, IfSpentAt};
 ghost use Rattle.kit_rules.specs.Simulation.{spender};
-ghost use Rattle.kit_top.specs.Causes.{FederationCauses, FileCauses, IsThis, Told};
-ghost use Rattle.kit_top.specs.Causes.{spent_text, text_of};
+ghost use Rattle.kit_top.specs.Causes.{EndsWith, FederationCauses, FileCauses, IsFederationRun};
+ghost use Rattle.kit_top.specs.Causes.{IsFileRun, OracleEndCauses, SimulationCauses, Told, text_of};
 
 use crate::bad_file::tell_bad_file;
+use crate::federates::tell_federate;
+use crate::replays::tell_replay;
 use crate::writing::tell;
-use crate::{Command, Status};
+use crate::{Command, Ended, Status};
 use kit_file::read_federation;
 use kit_io::Sink;
 use kit_oracle::{OracleEnd, need, simulate};
 use kit_report::{need_text, text};
 use kit_rules::Federation;
-use std::alloc::{AllocError, Global};
-
-fn spent_line(alloc: Global, federation: &Federation, federate: u8) -> Result<Vec<u8>, AllocError>
-    requires { federate < length federation.now.federates }
-    ensures { IfOk result (λ line. line.items ≡ spent_text federation.now federate) }
-{
-    let mut line = Vec::from_slice(alloc, b"fault SendsSpent ")?;
-    line.extend_from_slice(federation.federate(federate).name.bytes())?;
-    line.extend_from_slice(b"\n")?;
-    Ok(line)
-}
-
-fn tell_spent<K: Sink>(alloc: Global, federation: &Federation, federate: u8, sink: &mut K) -> Status
-    requires { federate < length federation.now.federates }
-    ensures told { Told (IsThis (Status.SendsSpent federate) (spent_text federation.now federate))
-        (K.holds sink.old) (K.holds sink.new) result }
-    ensures fault { result ≡ Status.WriteFault → Rose (K.faults sink.old) (K.faults sink.new) }
-{
-    match spent_line(alloc, federation, federate) {
-        Ok(line) => tell(sink, &line, Status::SendsSpent { federate }),
-        Err(AllocError) => Status::NoMemory,
-    }
-}
+use std::alloc::Global;
 
 fn oracle_text(alloc: Global, federation: &Federation) -> Result<Vec<u8>, OracleEnd>
     ensures text { IfOk result (λ text. text.items ≡ text_of Command.Oracle federation.now) }
@@ -61,53 +41,82 @@ fn check_text(alloc: Global, federation: &Federation) -> Result<Vec<u8>, OracleE
     Ok(text)
 }
 
-/// What a command asks of a federation.
-fn command_text(
+/// Tells how a simulation ended without a text.
+fn tell_oracle_end<K: Sink>(
     alloc: Global,
-    command: Command,
     federation: &Federation,
-) -> Result<Vec<u8>, OracleEnd>
-    ensures text { IfOk result (λ text. text.items ≡ text_of command federation.now) }
-    ensures none { OnOk result (spender federation.now ≡ None) }
-    ensures spent { IfSpent result (λ i. spender federation.now ≡ Some i) }
-    ensures within { IfSpent result (λ i. i < length federation.now.federates) }
-{
-    match command {
-        Command::Oracle => oracle_text(alloc, federation),
-        Command::Check => check_text(alloc, federation),
-    }
-}
-
-fn tell_federation<K: Sink>(
-    alloc: Global,
-    command: Command,
-    federation: &Federation,
+    end: OracleEnd,
     sink: &mut K,
 ) -> Status
-    ensures told { Told (FederationCauses command federation.now)
+    requires { IfSpentAt end (λ i. i < length federation.now.federates) }
+    ensures told { Told (OracleEndCauses federation.now end)
         (K.holds sink.old) (K.holds sink.new) result }
     ensures fault { result ≡ Status.WriteFault → Rose (K.faults sink.old) (K.faults sink.new) }
 {
-    match command_text(alloc, command, federation) {
+    match end {
+        OracleEnd::SendsSpent { federate } => {
+            let status = Status::SendsSpent { federate };
+            tell_federate(alloc, "SendsSpent", federation, federate, status, sink)
+        }
+        OracleEnd::NoMemory => Status::NoMemory,
+    }
+}
+
+fn tell_oracle<K: Sink>(alloc: Global, federation: &Federation, sink: &mut K) -> Status
+    ensures told { Told (SimulationCauses Command.Oracle federation.now)
+        (K.holds sink.old) (K.holds sink.new) result }
+    ensures fault { result ≡ Status.WriteFault → Rose (K.faults sink.old) (K.faults sink.new) }
+{
+    match oracle_text(alloc, federation) {
         Ok(text) => tell(sink, &text, Status::Done),
-        Err(OracleEnd::SendsSpent { federate }) => tell_spent(alloc, federation, federate, sink),
-        Err(OracleEnd::NoMemory) => Status::NoMemory,
+        Err(end) => tell_oracle_end(alloc, federation, end, sink),
+    }
+}
+
+fn tell_check<K: Sink>(alloc: Global, federation: &Federation, sink: &mut K) -> Status
+    ensures told { Told (SimulationCauses Command.Check federation.now)
+        (K.holds sink.old) (K.holds sink.new) result }
+    ensures fault { result ≡ Status.WriteFault → Rose (K.faults sink.old) (K.faults sink.new) }
+{
+    match check_text(alloc, federation) {
+        Ok(needs) => tell(sink, &needs, Status::Done),
+        Err(end) => tell_oracle_end(alloc, federation, end, sink),
+    }
+}
+
+/// What a command does with a federation.
+fn tell_federation<K: Sink>(
+    alloc: Global,
+    command: &Command,
+    federation: &Federation,
+    sink: &mut K,
+) -> Ended
+    ensures told { EndsWith (FederationCauses command.now federation.now)
+        (IsFederationRun command.now federation.now) (K.holds sink.old) (K.holds sink.new) result }
+    ensures fault { result.status ≡ Status.WriteFault
+        → Rose (K.faults sink.old) (K.faults sink.new) }
+{
+    match command {
+        Command::Oracle => Ended::empty(alloc, tell_oracle(alloc, federation, sink)),
+        Command::Check => Ended::empty(alloc, tell_check(alloc, federation, sink)),
+        Command::Replay(schedule) => tell_replay(alloc, federation, schedule, sink),
     }
 }
 
 /// What a command does with the bytes of a file.
 pub(crate) fn tell_file<K: Sink>(
     alloc: Global,
-    command: Command,
+    command: &Command,
     bytes: &[u8],
     sink: &mut K,
-) -> Status
-    ensures told { Told (FileCauses command bytes.now)
+) -> Ended
+    ensures told { EndsWith (FileCauses command.now bytes.now) (IsFileRun command.now bytes.now)
         (K.holds sink.old) (K.holds sink.new) result }
-    ensures fault { result ≡ Status.WriteFault → Rose (K.faults sink.old) (K.faults sink.new) }
+    ensures fault { result.status ≡ Status.WriteFault
+        → Rose (K.faults sink.old) (K.faults sink.new) }
 {
     match read_federation(alloc, bytes) {
         Ok(federation) => tell_federation(alloc, command, &federation, sink),
-        Err(fault) => tell_bad_file(alloc, fault, sink),
+        Err(fault) => Ended::empty(alloc, tell_bad_file(alloc, fault, sink)),
     }
 }

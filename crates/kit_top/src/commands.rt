@@ -1,34 +1,56 @@
 //! What each command does.
 
-ghost use Rattle.std.specs.Prelude.{◌≡◌};
+ghost use Rattle.std.specs.Prelude.{◌≡◌, ℕ, List};
 ghost use Rattle.kit_io.specs.Causes.{Rose};
-ghost use Rattle.kit_top.specs.Causes.{Causes, IsAnswered, IsNoCommand, Told};
+ghost use Rattle.kit_top.specs.Causes.{IsAnswered, IsCommand, IsEnded, IsNoCommand};
 ghost use Rattle.kit_top.specs.Causes.{Completes, OneCause};
 
 use crate::answers::tell_file;
 use crate::writing::tell;
-use crate::{Command, Status, Word};
+use crate::{Command, Ended, Status, Word};
 use kit_io::{ReadEnd, Sink, Source, read_all};
-use std::alloc::Global;
+use std::alloc::{AllocError, Global};
 
 /// The most bytes of an input.
 const MOST_BYTES: usize = 1_048_576;
 
-/// Answers the words by the source's bytes.
-fn answer<S: Source, K: Sink>(alloc: Global, words: &[Word], source: &mut S, sink: &mut K) -> Status
-    ensures told { Told (Causes S.Source words.now source.old source.new)
+/// Answers a command by the source's bytes.
+fn answer_command<S: Source, K: Sink>(
+    alloc: Global,
+    command: &Command,
+    source: &mut S,
+    sink: &mut K,
+) -> Ended
+    ensures told { (words : List (List ℕ)) → IsCommand words command.now
+        → IsEnded S.Source words source.old source.new
         (K.holds sink.old) (K.holds sink.new) result }
-    ensures fault { result ≡ Status.WriteFault → Rose (K.faults sink.old) (K.faults sink.new) }
-    ensures unread { IsNoCommand words.now → source.new ≡ source.old }
+    ensures fault { result.status ≡ Status.WriteFault
+        → Rose (K.faults sink.old) (K.faults sink.new) }
 {
-    let Some(command) = Command::of(words) else {
-        return tell(sink, b"fault Usage\n", Status::Usage);
-    };
     match read_all(alloc, source, MOST_BYTES) {
         Ok(bytes) => tell_file(alloc, command, &bytes, sink),
-        Err(ReadEnd::NoMemory) => Status::NoMemory,
-        Err(ReadEnd::TooLong) => tell(sink, b"fault TooLong\n", Status::TooLong),
-        Err(ReadEnd::ReadFault) => tell(sink, b"fault ReadFault\n", Status::ReadFault),
+        Err(ReadEnd::NoMemory) => Ended::empty(alloc, Status::NoMemory),
+        Err(ReadEnd::TooLong) => {
+            Ended::empty(alloc, tell(sink, b"fault TooLong\n", Status::TooLong))
+        }
+        Err(ReadEnd::ReadFault) => {
+            Ended::empty(alloc, tell(sink, b"fault ReadFault\n", Status::ReadFault))
+        }
+    }
+}
+
+/// Answers the words by the source's bytes.
+fn answer<S: Source, K: Sink>(alloc: Global, words: &[Word], source: &mut S, sink: &mut K) -> Ended
+    ensures told { IsEnded S.Source words.now source.old source.new
+        (K.holds sink.old) (K.holds sink.new) result }
+    ensures fault { result.status ≡ Status.WriteFault
+        → Rose (K.faults sink.old) (K.faults sink.new) }
+    ensures unread { IsNoCommand words.now → source.new ≡ source.old }
+{
+    match Command::of(alloc, words) {
+        Ok(Some(command)) => answer_command(alloc, &command, source, sink),
+        Ok(None) => Ended::empty(alloc, tell(sink, b"fault Usage\n", Status::Usage)),
+        Err(AllocError) => Ended::empty(alloc, Status::NoMemory),
     }
 }
 
@@ -36,25 +58,30 @@ fn answer<S: Source, K: Sink>(alloc: Global, words: &[Word], source: &mut S, sin
 /// names the fault, to the sink. It takes no threads and always returns.
 ///
 /// `oracle`, alone, writes the text of the file's sequential timestamp-ordered simulation, and
-/// `check` how many buffers each of its federates needs and whether there are enough. The words are
-/// looked at first; then comes the reading of the source to its end, then its form, then the
-/// simulation, and then the writing: a text is made whole before its first byte is written.
+/// `check` how many buffers each of its federates needs and whether there are enough. `replay` and
+/// the words of a schedule ([`schedule_of`](kit_schedule::schedule_of)) run the federates as nodes
+/// over one floor, with these turns, and write the text of the histories that the nodes report. The
+/// words are looked at first; then comes the reading of the source to its end, then its form, then
+/// the simulation or the run, and then the writing: a text is made whole before its first byte is
+/// written.
 pub fn plain<S: Source, K: Sink>(
     alloc: Global,
     words: &[Word],
     source: &mut S,
     sink: &mut K,
-) -> Status
-    // Done: what was written is what the command asks of the file: for `oracle` the text of its
-    // sequential timestamp-ordered simulation, for `check` that of its needs.
-    ensures done { result ≡ Status.Done →
+) -> Ended
+    // Done: what was written is what the command asks of the file: for `oracle` and `replay` the
+    // text of its sequential timestamp-ordered simulation, for `check` that of its needs.
+    ensures done { result.status ≡ Status.Done →
         IsAnswered S.Source words.now source.old source.new (K.holds sink.old) (K.holds sink.new) }
 
     // Each status has its cause, and its text was written whole; a front of it for WriteFault,
-    // nothing for NoMemory.
-    ensures told { Told (Causes S.Source words.now source.old source.new)
+    // nothing for NoMemory. The nodes and the floor are those of the run that `replay` made, and
+    // there are none where nothing was run.
+    ensures told { IsEnded S.Source words.now source.old source.new
         (K.holds sink.old) (K.holds sink.new) result }
-    ensures fault { result ≡ Status.WriteFault → Rose (K.faults sink.old) (K.faults sink.new) }
+    ensures fault { result.status ≡ Status.WriteFault
+        → Rose (K.faults sink.old) (K.faults sink.new) }
 
     // For words of no command the source is left as it is, whatever the status.
     ensures unread { IsNoCommand words.now → source.new ≡ source.old }
@@ -62,8 +89,9 @@ pub fn plain<S: Source, K: Sink>(
     answer(alloc, words, source, sink)
 }
 
-/// Where the source tells its bytes and no read failed, the words and the input cause one status
-/// and one text: so each status comes exactly where it has its cause.
+/// Where the source tells its bytes and no read failed, the words and the input, and for `replay`
+/// how the run ended, cause one status and one text: so each status comes exactly where it has its
+/// cause.
 pub fn one_cause<S: Source>()
     ensures { OneCause S.Source }
 {}
@@ -71,6 +99,9 @@ pub fn one_cause<S: Source>()
 /// Where the words are those of a command, the source tells its bytes, which are not too many and
 /// the file of a federation, and nobody takes number 16,385 in its simulation, the command is
 /// answered: no status but Done and ReadFault has its cause, and Done with the text of the command.
+///
+/// For `replay` this holds where there are as many buffers as each federate needs, and it may also
+/// be that the schedule ended before the run did.
 pub fn completeness<S: Source>()
     ensures { Completes S.Source }
 {}

@@ -5,14 +5,17 @@ mod answers;
 mod bad_file;
 mod command;
 mod commands;
+mod ended;
+mod federates;
+mod replays;
 mod status;
-mod word;
 mod writing;
 
 pub use command::Command;
 pub use commands::{completeness, one_cause, plain};
+pub use ended::Ended;
+pub use kit_schedule::Word;
 pub use status::Status;
-pub use word::Word;
 
 #[cfg(test)]
 mod tests;

@@ -20,9 +20,20 @@ pub enum Status {
     /// The input is no federation file; this is what is wrong with it, and where.
     #[error("the input is no federation file")]
     BadFile(FileFault),
+    /// All entries of the schedule were taken, and this federate, the least of those, was not
+    /// granted the end time.
+    #[error("federate {federate} was not granted the end time")]
+    Unfinished { federate: u8 },
+    /// A federate found no buffer for its message of this number: each had a message that was timed
+    /// after the federate's time, so there are fewer buffers than it needs.
+    #[error("federate {federate} had no buffer for message {number}")]
+    NoBuffer { federate: u8, number: u16 },
     /// A federate would take the number 16,385 for a message.
     #[error("federate {federate} would take number 16,385 for a message")]
     SendsSpent { federate: u8 },
+    /// A federate would take part in more rounds than there may be.
+    #[error("federate {federate} took all rounds that there may be")]
+    RoundsSpent { federate: u8 },
     /// A write to the sink failed.
     #[error("the text could not be written")]
     WriteFault,
@@ -44,7 +55,10 @@ impl Status {
             Status::ReadFault => 3,
             Status::TooLong => 4,
             Status::BadFile(_) => 5,
+            Status::Unfinished { .. } => 6,
+            Status::NoBuffer { .. } => 7,
             Status::SendsSpent { .. } => 8,
+            Status::RoundsSpent { .. } => 9,
             Status::WriteFault => 10,
             Status::NoMemory => 11,
         }

@@ -1,7 +1,7 @@
 mod files;
 
 use super::*;
-use files::{FAULTS, NEEDS, RADAR, RADAR_FIRST, RADAR_LAST, TEXTS};
+use files::{FAULTS, NEEDS, RADAR, RADAR_FIRST, RADAR_LAST, REPLAYS, SHORT_STEP, TEXTS};
 use kit_io::{MemorySink, MemorySource};
 use std::alloc::{AllocError, Global};
 use std::test::*;
@@ -20,8 +20,8 @@ fn run(alloc: Global, line: &str, input: &[u8]) -> Result<(u8, Vec<u8>), AllocEr
     let words = words_of(alloc, line)?;
     let mut source = MemorySource::new(Vec::from_slice(alloc, input)?, usize::MAX, Vec::new(alloc));
     let mut sink = MemorySink::new(alloc, 65_536, usize::MAX, Vec::new(alloc))?;
-    let status = plain(alloc, &words, &mut source, &mut sink);
-    Ok((status.code(), Vec::from_slice(alloc, sink.held())?))
+    let ended = plain(alloc, &words, &mut source, &mut sink);
+    Ok((ended.status.code(), Vec::from_slice(alloc, sink.held())?))
 }
 
 /// A file whose one federate sends 1,024 messages to itself at each grant, up to this end.
@@ -122,6 +122,36 @@ fn pools_may_have_more_than_64_buffers(rt: HostRuntime) -> Result<(), AllocError
 }
 
 #[test]
+fn replays_give_their_texts(rt: HostRuntime) -> Result<(), AllocError> {
+    for (line, file, code, text) in REPLAYS {
+        let (ended, held) = run(rt.alloc(), line, file.as_bytes())?;
+        assert_eq!(rt; ended, code, "{line} {file}");
+        assert_eq!(rt; held.as_slice(), text.as_bytes(), "{line} {file}");
+    }
+    Ok(())
+}
+
+#[test]
+fn replays_leave_nodes_and_a_floor(rt: HostRuntime) -> Result<(), AllocError> {
+    let alloc = rt.alloc();
+    for (line, rounds) in [("replay aba", 1), ("replay bababa", 2)] {
+        let words = words_of(alloc, line)?;
+        let file = Vec::from_slice(alloc, SHORT_STEP.as_bytes())?;
+        let mut source = MemorySource::new(file, usize::MAX, Vec::new(alloc));
+        let mut sink = MemorySink::new(alloc, 65_536, usize::MAX, Vec::new(alloc))?;
+        let ended = plain(alloc, &words, &mut source, &mut sink);
+        assert_eq!(rt; ended.status.code(), 0, "{line}");
+        assert_eq!(rt; ended.nodes.len(), 2, "{line}");
+        assert!(rt;
+            ended.nodes.iter().all(|node| node.rounds == rounds),
+            "{line}"
+        );
+        assert!(rt; ended.floor.is_some(), "{line}");
+    }
+    Ok(())
+}
+
+#[test]
 fn other_words_are_a_usage_fault(rt: HostRuntime) -> Result<(), AllocError> {
     for line in [
         "",
@@ -129,6 +159,9 @@ fn other_words_are_a_usage_fault(rt: HostRuntime) -> Result<(), AllocError> {
         "run 17",
         "run 03",
         "replay q",
+        "replay 0*a",
+        "replay 1000001*a",
+        "replays a",
         "oracle oracle",
         "Oracle",
         "check oracle",
@@ -194,8 +227,8 @@ fn faults_of_source_and_sink(rt: HostRuntime) -> Result<(), AllocError> {
         vec![in alloc; 0]?,
     );
     let mut sink = MemorySink::new(alloc, 64, usize::MAX, Vec::new(alloc))?;
-    let status = plain(alloc, &words, &mut source, &mut sink);
-    assert_eq!(rt; status.code(), 3);
+    let ended = plain(alloc, &words, &mut source, &mut sink);
+    assert_eq!(rt; ended.status.code(), 3);
     assert_eq!(rt; sink.held(), b"fault ReadFault\n".as_slice());
 
     // The sink takes four bytes a call, and the second call fails.
@@ -205,8 +238,8 @@ fn faults_of_source_and_sink(rt: HostRuntime) -> Result<(), AllocError> {
         Vec::new(alloc),
     );
     let mut sink = MemorySink::new(alloc, 64, 4, vec![in alloc; 1]?)?;
-    let status = plain(alloc, &words, &mut source, &mut sink);
-    assert_eq!(rt; status.code(), 10);
+    let ended = plain(alloc, &words, &mut source, &mut sink);
+    assert_eq!(rt; ended.status.code(), 10);
     assert_eq!(rt; sink.held(), b"1 a ".as_slice());
     Ok(())
 }
@@ -218,8 +251,8 @@ fn usage_reads_nothing(rt: HostRuntime) -> Result<(), AllocError> {
     // A read would fail.
     let mut source = MemorySource::new(Vec::new(alloc), 1, vec![in alloc; 0]?);
     let mut sink = MemorySink::new(alloc, 64, usize::MAX, Vec::new(alloc))?;
-    let status = plain(alloc, &words, &mut source, &mut sink);
-    assert_eq!(rt; status.code(), 2);
+    let ended = plain(alloc, &words, &mut source, &mut sink);
+    assert_eq!(rt; ended.status.code(), 2);
     assert_eq!(rt; sink.held(), b"fault Usage\n".as_slice());
     Ok(())
 }

@@ -22,6 +22,6 @@ fn main(rt: HostRuntime) -> ExitCode {
     };
     let mut source = StdSource::new(rt.stdin());
     let mut sink = StdSink::new(rt.stdout());
-    let status = plain(rt.alloc(), &words, &mut source, &mut sink);
-    ExitCode::from(status.code())
+    let ended = plain(rt.alloc(), &words, &mut source, &mut sink);
+    ExitCode::from(ended.status.code())
 }

@@ -100,6 +100,53 @@ pub(crate) const TEXTS: [(&str, &str); 13] = [
     ),
 ];
 
+/// The file of one step, up to its end alone.
+pub(crate) const SHORT_STEP: &str =
+    r#"{"version":1,"end":1,"buffers":1,"groups":[{"name":"g","members":["b"]}],"federates":[{"name":"a","lookahead":1,"advance":{"tar":1},"rules":[{"on":"start","do":[{"send":"g","delay":1,"value":7}]}]},{"name":"b","lookahead":1,"advance":{"tar":1}}]}"#;
+
+/// The file of one buffer, with two.
+const TWO_BUFFERS: &str =
+    r#"{"version":1,"end":8,"buffers":2,"groups":[{"name":"g","members":["b"]}],"federates":[{"name":"a","lookahead":5,"advance":{"tar":1},"rules":[{"on":"grant","if":[{"left":"$now","is":"eq","right":1}],"do":[{"send":"g","delay":5,"value":1}]},{"on":"grant","if":[{"left":"$now","is":"eq","right":2}],"do":[{"send":"g","delay":5,"value":2}]}]},{"name":"b","lookahead":5,"advance":{"tar":5}}]}"#;
+
+/// Runs, each by the words and the file, with the exit status and what is written.
+pub(crate) const REPLAYS: [(&str, &str, u8, &str); 10] = [
+    (
+        "replay 448*bca",
+        ONE_TIME,
+        0,
+        "3 c got g a#1 @3 = 1\n3 c got g b#1 @3 = 2\n3 c grant\n4 a grant\n4 b grant\n4 c grant\nend a\nend b\nend c\n",
+    ),
+    ("replay ab", TAKEN_BACK_AT_ONCE, 6, "fault Unfinished a\n"),
+    (
+        "replay aba",
+        TAKEN_BACK_AT_ONCE,
+        0,
+        "4 a grant\n4 b grant\nend a m=1\nend b\n",
+    ),
+    (
+        "replay aba",
+        SHORT_STEP,
+        0,
+        "1 a grant\n1 b got g a#1 @1 = 7\n1 b grant\nend a\nend b\n",
+    ),
+    ("replay babab", SHORT_STEP, 6, "fault Unfinished a\n"),
+    (
+        "replay ba 2*ba",
+        SHORT_STEP,
+        0,
+        "1 a grant\n1 b got g a#1 @1 = 7\n1 b grant\nend a\nend b\n",
+    ),
+    (
+        "replay 9*ab",
+        TWO_BUFFERS,
+        0,
+        "1 a grant\n2 a grant\n3 a grant\n4 a grant\n5 a grant\n5 b grant\n6 a grant\n7 a grant\n8 a grant\n8 b got g a#1 @6 = 1\n8 b got g a#2 @7 = 2\n8 b grant\nend a\nend b\n",
+    ),
+    ("replay abababab", TWO_BUFFERS, 6, "fault Unfinished a\n"),
+    ("replay abababab", ONE_BUFFER, 7, "fault NoBuffer a 2\n"),
+    ("replay", SHORT_STEP, 6, "fault Unfinished a\n"),
+];
+
 /// Files that are accepted, each with the text of its needs.
 pub(crate) const NEEDS: [(&str, &str); 7] = [
     (

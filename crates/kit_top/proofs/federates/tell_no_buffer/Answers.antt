@@ -1,0 +1,9 @@
+use Rattle.std.proofs.Common.{◌∙◌, List, ℕ, subst}
+use Rattle.kit_top.specs.declared.status.Status.TheVariants.{NoBuffer}
+use Rattle.kit_top.specs.Causes.{IsThis, Told}
+use Rattle.kit_top.proofs.federates.tell_no_buffer.Goals as goal
+
+pub returns-in-Ok-clause-told : goal.returns-in-Ok-clause-told
+returns-in-Ok-clause-told g c =
+    let T : List ℕ → Type 0 = λ text. Told (IsThis (NoBuffer c.args.federate c.args.number) text) (g.K.Sink.holds c.args.sink.now) (g.K.Sink.holds c.tell.new.sink) c.tell.result in
+    subst T (c.deref.ensures.value ∙ c.in-Ok.ensures) c.tell.ensures.told
