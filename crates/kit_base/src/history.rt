@@ -5,7 +5,8 @@ use crate::{Items, Message};
 pub enum Line {
     /// An Event was delivered to a federate.
     Deliver {
-        /// The time of the grant with which it was delivered: the message's own time or a later one.
+        /// The time of the grant with which it was delivered: the message's own time or a later
+        /// one.
         granted: u64,
         /// The federate that received it, by its number.
         federate: u8,
@@ -26,7 +27,8 @@ pub enum Line {
 pub struct Part {
     /// The federate's own lines, in the order in which they came.
     pub lines: Items<Line>,
-    /// The closing values of its variables, in the order of its table, and 0 in the places that are left.
+    /// The closing values of its variables, in the order of its table, and 0 in the places that are
+    /// left.
     pub vars: [u32; 8],
 }
 

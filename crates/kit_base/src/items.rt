@@ -1,4 +1,5 @@
-ghost use Rattle.std.specs.Prelude.{◌≡◌, [], ◌∷◌, ◌++◌, ◌<◌, ◌≤◌, length, slice_set, take, drop, OnOk, OnErr, ◌↔◌, IsTrue};
+ghost use Rattle.std.specs.Prelude.{◌≡◌, [], ◌∷◌, ◌++◌, ◌<◌, ◌≤◌, length, slice_set, take, drop};
+ghost use Rattle.std.specs.Prelude.{OnOk, OnErr, ◌↔◌, IsTrue};
 
 use std::alloc::{AllocError, Global};
 use std::marker::Model;
@@ -79,7 +80,8 @@ impl<T: Drop> Items<T> {
         Ok(())
     }
 
-    /// Moves the items of `more` to the end, in their order. Where memory is wanting they are dropped.
+    /// Moves the items of `more` to the end, in their order. Where memory is wanting they are
+    /// dropped.
     pub fn append(&mut self, more: Items<T>) -> Result<(), AllocError>
         ensures ok { OnOk result (self.new ≡ self.old ++ more) }
         ensures err { OnErr result (self.new ≡ self.old) }
@@ -95,7 +97,8 @@ impl<T: Drop> Items<T> {
         self.items.truncate(len);
     }
 
-    /// Puts an item before the one at a place, or at the end. Where memory is wanting the item is dropped.
+    /// Puts an item before the one at a place, or at the end. Where memory is wanting the item is
+    /// dropped.
     pub fn insert(&mut self, at: usize, item: T) -> Result<(), AllocError>
         requires { at ≤ length self.old }
         ensures ok { OnOk result (self.new ≡ take at self.old ++ item ∷ drop at self.old) }

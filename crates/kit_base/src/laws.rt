@@ -1,6 +1,7 @@
 //! Laws of the packed words: each is the contract of a function that does nothing.
 
-ghost use Rattle.kit_base.specs.Words.{HeadsComeBack, HeadsAreWords, BodiesComeBack, BodiesAreWords};
+ghost use Rattle.kit_base.specs.Words.{HeadsComeBack, HeadsAreWords, BodiesComeBack};
+ghost use Rattle.kit_base.specs.Words.{BodiesAreWords};
 
 /// A head that was packed tells the message's number, kind and group, and the colour.
 pub fn heads_come_back()

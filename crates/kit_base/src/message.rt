@@ -5,8 +5,8 @@ ghost use Rattle.std.specs.Prelude.{◌≡◌};
 pub enum Kind {
     /// It brings its value, and is delivered to them.
     Event,
-    /// It takes back an earlier Event of its sender, as HLA 1.3's Retract does: the one whose number is
-    /// its value. It is never delivered.
+    /// It takes back an earlier Event of its sender, as HLA 1.3's Retract does: the one whose
+    /// number is its value. It is never delivered.
     Retraction,
 }
 
@@ -28,8 +28,8 @@ pub struct Message {
 }
 
 impl Message {
-    /// Time, sender and number. Messages are delivered in the order of these, and no two messages of a
-    /// run agree in the last two.
+    /// Time, sender and number. Messages are delivered in the order of these, and no two messages
+    /// of a run agree in the last two.
     pub fn key(&self) -> (u64, u8, u16)
         ensures { result ≡ (self.now.time, self.now.sender, self.now.number) }
     {

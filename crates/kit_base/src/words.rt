@@ -5,8 +5,8 @@ ghost use Rattle.kit_base.specs.Words.{kind_bit, head_word, head_of, body_word, 
 
 use crate::{Kind, Message};
 
-/// What the head of a message tells: its colour, and what its body leaves out. The sender is known by
-/// whose buffer it is.
+/// What the head of a message tells: its colour, and what its body leaves out. The sender is known
+/// by whose buffer it is.
 #[derive(Clone, Copy, Debug, PartialEq, Eq)]
 pub struct Head {
     /// Which of the sender's messages it is, counted from 1.
@@ -15,8 +15,8 @@ pub struct Head {
     pub kind: Kind,
     /// The group that it was sent to, by its number.
     pub group: u8,
-    /// The run of the reduction to which its sender had contributed last when it posted the message, as
-    /// in Mattern's colours of messages.
+    /// The run of the reduction to which its sender had contributed last when it posted the
+    /// message, as in Mattern's colours of messages.
     pub colour: u64,
 }
 

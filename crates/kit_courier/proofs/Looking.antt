@@ -14,7 +14,8 @@ use Rattle.kit_ground.specs.Steps.{Allowed, address_of}
 use Rattle.kit_courier.specs.declared.view.CourierView.{CourierView}
 use Rattle.kit_courier.specs.Clocks.{Knows, clock}
 use Rattle.kit_courier.specs.Couriers.{courier_rule}
-use Rattle.kit_courier.specs.Deliveries.{clock_of, view_after}
+use Rattle.kit_courier.specs.Deliveries.{view_after}
+use Rattle.kit_ground.specs.Layout.{clock_of}
 use Rattle.kit_courier.proofs.Keeping.{kept, known_here}
 use Rattle.kit_courier.proofs.LetterSteps.{head_still, letters_still, mine}
 

@@ -14,7 +14,8 @@ use Rattle.kit_ground.proofs.WorldFacts.{few_federates, fits_here, told_by_world
 use Rattle.kit_courier.specs.declared.view.CourierView.{CourierView}
 use Rattle.kit_courier.specs.Calls.{AdvanceLeaves, HasLooked, IsLeast, last_look}
 use Rattle.kit_courier.specs.Couriers.{courier_rule}
-use Rattle.kit_courier.specs.Deliveries.{clock_of, view_after}
+use Rattle.kit_courier.specs.Deliveries.{view_after}
+use Rattle.kit_ground.specs.Layout.{clock_of}
 
 abbrev P : Type 0
 P = Place CourierView

@@ -11,7 +11,7 @@ use Rattle.kit_ground.specs.Steps.{buffer_of, mail_index, mail_mask, reg_index}
 use Rattle.kit_courier.specs.declared.view.CourierView.{CourierView}
 use Rattle.kit_courier.specs.declared.view.Letter.{Letter}
 use Rattle.kit_courier.specs.Couriers.{courier_rule}
-use Rattle.kit_courier.specs.Deliveries.{clock_of}
+use Rattle.kit_ground.specs.Layout.{clock_of}
 use Rattle.kit_courier.specs.Letters.{WasSentTo, sent_by}
 
 -- of each own buffer, as much is still to be posted as before

@@ -6,7 +6,7 @@ use Rattle.kit_ground.specs.declared.address.Address.TheVariants.{Register}
 use Rattle.kit_ground.specs.declared.place.Place.{Place}
 use Rattle.kit_ground.specs.Memory.{Memory}
 use Rattle.kit_courier.specs.declared.view.CourierView.{CourierView}
-use Rattle.kit_courier.specs.Deliveries.{clock_of}
+use Rattle.kit_ground.specs.Layout.{clock_of}
 
 -- what the clock of the federate k shows
 abbrev pub clock : Memory → ℕ → ℕ

@@ -19,10 +19,6 @@ newcomer federates = record { known = replicate federates 0; sent = []; reading 
 abbrev pub courier_first : ℕ → ℕ → CourierView
 courier_first federates k = newcomer federates
 
--- the register with a federate's clock
-abbrev pub clock_of : ℕ → Reg
-clock_of k = record { owner = k; slot = 12 }
-
 -- the letter that the owner last wrote in a buffer
 abbrev pub letter_of : Buffer → Letter
 letter_of c = record { head = c.head; body = c.body }

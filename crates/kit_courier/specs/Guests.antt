@@ -6,7 +6,8 @@ use Rattle.kit_ground.specs.declared.place.Place.{Place}
 use Rattle.kit_ground.specs.Guests.{GuestKeeps}
 use Rattle.kit_courier.specs.declared.view.CourierView.{CourierView}
 use Rattle.kit_courier.specs.Couriers.{courier_rule}
-use Rattle.kit_courier.specs.Deliveries.{clock_of, view_after}
+use Rattle.kit_courier.specs.Deliveries.{view_after}
+use Rattle.kit_ground.specs.Layout.{clock_of}
 
 -- a guest may look at each clock
 abbrev pub GuestsLearn : Type 0

@@ -69,9 +69,9 @@ where
 /// its end, and ends where it finds none. What is then left, the caller works. A worker whose turns
 /// are all idle waits longer and longer before the next.
 ///
-/// Each item comes back once, worked to its end. Which worker works it, and in which order the items
-/// come back, is not said. It takes no memory that it cannot do without: a worker that gets none for
-/// what it would keep takes no item.
+/// Each item comes back once, worked to its end. Which worker works it, and in which order the
+/// items come back, is not said. It takes no memory that it cannot do without: a worker that gets
+/// none for what it would keep takes no item.
 pub fn deal<D, S, G, R>(
     rt: &R,
     alloc: Global,

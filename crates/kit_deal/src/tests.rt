@@ -123,7 +123,8 @@ fn do_all<G: Gate + Send, R: Threads + Wait + Sync>(
     requires undone { All (λ c. 0 < c.left) chores.items }
     requires gates { length gates.old ≤ all_parts }
     ensures done { IfOk result (λ r. AllHaveEnded (λ c. c.left == 0) r.items) }
-    ensures once { IfOk result (λ r. AreAll (λ c. c.number) (map (λ c. c.number) chores.items) r.items) }
+    ensures once { IfOk result (λ r. AreAll (λ c. c.number)
+        (map (λ c. c.number) chores.items) r.items) }
 {
     do_named::<Brand, G, R>(rt, alloc, gates, chores)
 }

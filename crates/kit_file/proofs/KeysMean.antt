@@ -14,7 +14,7 @@ use Rattle.kit_file.specs.declared.fault.FaultKind.{FaultKind}
 use Rattle.kit_file.specs.declared.fault.FaultKind.TheVariants as kind
 use Rattle.kit_file.specs.declared.fault.Fault.{Fault}
 use Rattle.kit_file.specs.Paths.{key_path, item_path}
-use Rattle.kit_file.specs.Reading.{◌>>=◌, refused, within, required, each}
+use Rattle.kit_file.specs.Reading.{◌>>=◌, fault_at, within, or_fault, each}
 use Rattle.kit_file.specs.Places.{object, member, number, list, list_of, data_of}
 use Rattle.kit_file.specs.FederateNames.{federate_names_of}
 use Rattle.kit_file.specs.Groups.{groups_of}
@@ -36,12 +36,12 @@ within_ok front (Ok x) y e = e
 within_ok front (Err f) y e = absurd (cc)
 
 -- a value in its range
-in_range : {A : Type 0} (b : Bool) (f : FaultKind) (path : List ℕ) (x y : A) → (if b then refused f path else Ok x) ≡ Ok y → (b ≡ false) × (x ≡ y)
+in_range : {A : Type 0} (b : Bool) (f : FaultKind) (path : List ℕ) (x y : A) → (if b then fault_at f path else Ok x) ≡ Ok y → (b ≡ false) × (x ≡ y)
 in_range true f path x y e = absurd (cc)
 in_range false f path x y e = (refl, cc)
 
 -- a number that was read
-number_found : (low high : ℕ) (path : List ℕ) (o : Option ℕ) (n : ℕ) → (required kind.WrongKind path o >>= λ m. if nat_lt m low || nat_lt high m then refused kind.OutOfRange path else Ok m) ≡ Ok n → (o ≡ Some n) × ((nat_lt n low || nat_lt high n) ≡ false)
+number_found : (low high : ℕ) (path : List ℕ) (o : Option ℕ) (n : ℕ) → (or_fault kind.WrongKind path o >>= λ m. if nat_lt m low || nat_lt high m then fault_at kind.OutOfRange path else Ok m) ≡ Ok n → (o ≡ Some n) × ((nat_lt n low || nat_lt high n) ≡ false)
 number_found low high path None n e = absurd (cc)
 number_found low high path (Some m) n e =
     let a = in_range (nat_lt m low || nat_lt high m) kind.OutOfRange path m n e in
@@ -50,7 +50,7 @@ number_found low high path (Some m) n e =
 
 -- the same, from what stands under the key
 number_from : (low high : ℕ) (path : List ℕ) (o : Option Data) (n : ℕ)
-    → (required kind.Missing path o >>= λ v. required kind.WrongKind path (option_and_then as_u64 (as_number v)) >>= λ m. if nat_lt m low || nat_lt high m then refused kind.OutOfRange path else Ok m) ≡ Ok n
+    → (or_fault kind.Missing path o >>= λ v. or_fault kind.WrongKind path (option_and_then as_u64 (as_number v)) >>= λ m. if nat_lt m low || nat_lt high m then fault_at kind.OutOfRange path else Ok m) ≡ Ok n
     → (option_and_then as_u64 (option_and_then as_number o) ≡ Some n) × ((nat_lt n low || nat_lt high n) ≡ false)
 number_from low high path None n e = absurd (cc)
 number_from low high path (Some v) n e = number_found low high path (option_and_then as_u64 (as_number v)) n e
@@ -62,7 +62,7 @@ number_says key low high d n e = number_from low high (key_path key) (get key d)
 
 -- a list that was read
 list_found : (low high : ℕ) (path : List ℕ) (o : Option Items) (ds : List Data)
-    → (required kind.WrongKind path o >>= λ items. if nat_lt (length (data_of items)) low || nat_lt high (length (data_of items)) then refused kind.OutOfRange path else Ok (data_of items)) ≡ Ok ds
+    → (or_fault kind.WrongKind path o >>= λ items. if nat_lt (length (data_of items)) low || nat_lt high (length (data_of items)) then fault_at kind.OutOfRange path else Ok (data_of items)) ≡ Ok ds
     → option_map_or data_of o [] ≡ ds
 list_found low high path None ds e = absurd (cc)
 list_found low high path (Some items) ds e =
@@ -70,7 +70,7 @@ list_found low high path (Some items) ds e =
     a.1
 
 -- the same, from what stands under the key
-list_from : (low high : ℕ) (key : List ℕ) (o : Option Data) (ds : List Data) → (required kind.Missing (key_path key) o >>= λ v. list_of key low high v) ≡ Ok ds
+list_from : (low high : ℕ) (key : List ℕ) (o : Option Data) (ds : List Data) → (or_fault kind.Missing (key_path key) o >>= λ v. list_of key low high v) ≡ Ok ds
     → option_map_or data_of (option_and_then as_array o) [] ≡ ds
 unfolding list_of
 list_from low high key None ds e = absurd (cc)
@@ -105,7 +105,7 @@ regulating_from : (o : Option Data) (b : Bool) → regulating_in o ≡ Ok b → 
 regulating_from None b e = cc
 regulating_from (Some v) b e = truth (as_bool v) e
   where
-    truth : (o : Option Bool) → required kind.WrongKind (key_path (codes "regulating")) o ≡ Ok b → unwrap_or o true ≡ b
+    truth : (o : Option Bool) → or_fault kind.WrongKind (key_path (codes "regulating")) o ≡ Ok b → unwrap_or o true ≡ b
     truth None e = absurd (cc)
     truth (Some x) e = cc
 

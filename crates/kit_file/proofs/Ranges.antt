@@ -15,7 +15,7 @@ use Rattle.kit_rules.proofs.NameForms.{names_are_tested_law}
 use Rattle.kit_file.specs.declared.fault.FaultKind.TheVariants as kind
 use Rattle.kit_file.specs.declared.fault.Fault.{Fault}
 use Rattle.kit_file.specs.Paths.{key_path}
-use Rattle.kit_file.specs.Reading.{◌>>=◌, refused, required, guard}
+use Rattle.kit_file.specs.Reading.{◌>>=◌, fault_at, or_fault, guard}
 use Rattle.kit_file.specs.Places.{member, number, text, list, list_of, optional_list, data_of, is_same}
 use Rattle.kit_file.specs.Names.{itself, var_name, group_name, name, fresh, is_given}
 use Rattle.kit_file.specs.Actions.{delay_of, tar_of, ner_of}
@@ -27,7 +27,7 @@ goes_on : {A B : Type 0} (r : Result A Fault) (x : A) (next : A → Result B Fau
 goes_on r x next e = ap (λ t. t >>= next) e
 
 -- what is not below and not above is taken
-within_range : {A : Type 0} (n low high : ℕ) (path : List ℕ) (x : A) → low ≤ n → n ≤ high → (if nat_lt n low || nat_lt high n then refused kind.OutOfRange path else Ok x) ≡ Ok x
+within_range : {A : Type 0} (n low high : ℕ) (path : List ℕ) (x : A) → low ≤ n → n ≤ high → (if nat_lt n low || nat_lt high n then fault_at kind.OutOfRange path else Ok x) ≡ Ok x
 within_range n low high path x lo hi =
     let a : nat_lt n low ≡ false = search arith in
     let b : nat_lt high n ≡ false = search arith in
@@ -38,11 +38,11 @@ number_taken : (key : List ℕ) (low high : ℕ) (d : Data) (n : ℕ) → number
 unfolding number member
 number_taken key low high d n said lo hi = from (get key d) said
   where
-    found : (o : Option ℕ) → o ≡ Some n → (required kind.WrongKind (key_path key) o >>= λ m. if nat_lt m low || nat_lt high m then refused kind.OutOfRange (key_path key) else Ok m) ≡ Ok n
+    found : (o : Option ℕ) → o ≡ Some n → (or_fault kind.WrongKind (key_path key) o >>= λ m. if nat_lt m low || nat_lt high m then fault_at kind.OutOfRange (key_path key) else Ok m) ≡ Ok n
     found o e = rw e (within_range n low high (key_path key) n lo hi)
 
     from : (o : Option Data) → option_and_then as_u64 (option_and_then as_number o) ≡ Some n
-        → (required kind.Missing (key_path key) o >>= λ v. required kind.WrongKind (key_path key) (option_and_then as_u64 (as_number v)) >>= λ m. if nat_lt m low || nat_lt high m then refused kind.OutOfRange (key_path key) else Ok m) ≡ Ok n
+        → (or_fault kind.Missing (key_path key) o >>= λ v. or_fault kind.WrongKind (key_path key) (option_and_then as_u64 (as_number v)) >>= λ m. if nat_lt m low || nat_lt high m then fault_at kind.OutOfRange (key_path key) else Ok m) ≡ Ok n
     from None e = absurd (cc)
     from (Some v) e = found (option_and_then as_u64 (as_number v)) e
 
@@ -55,7 +55,7 @@ list_taken : (key : List ℕ) (low high : ℕ) (d : Data) (ds : Items) → optio
 unfolding list member
 list_taken key low high d ds is lo hi = from (get key d) is
   where
-    from : (o : Option Data) → option_and_then as_array o ≡ Some ds → (required kind.Missing (key_path key) o >>= λ v. list_of key low high v) ≡ Ok (data_of ds)
+    from : (o : Option Data) → option_and_then as_array o ≡ Some ds → (or_fault kind.Missing (key_path key) o >>= λ v. list_of key low high v) ≡ Ok (data_of ds)
     from None e = absurd (cc)
     from (Some v) e = items_taken key low high v ds e lo hi
 
@@ -126,11 +126,11 @@ name_taken key d s is form = from (get key d) is
     passes : is_name s ≡ true
     passes = (names_are_tested_law s).1 form
 
-    found : (o : Option (List ℕ)) → o ≡ Some s → (required kind.WrongKind (key_path key) o >>= λ t. if is_name t then Ok t else refused kind.OutOfRange (key_path key)) ≡ Ok s
+    found : (o : Option (List ℕ)) → o ≡ Some s → (or_fault kind.WrongKind (key_path key) o >>= λ t. if is_name t then Ok t else fault_at kind.OutOfRange (key_path key)) ≡ Ok s
     found o e = rw (e, passes) refl
 
     from : (o : Option Data) → option_and_then as_str o ≡ Some s
-        → ((required kind.Missing (key_path key) o >>= λ v. required kind.WrongKind (key_path key) (as_str v)) >>= λ t. if is_name t then Ok t else refused kind.OutOfRange (key_path key)) ≡ Ok s
+        → ((or_fault kind.Missing (key_path key) o >>= λ v. or_fault kind.WrongKind (key_path key) (as_str v)) >>= λ t. if is_name t then Ok t else fault_at kind.OutOfRange (key_path key)) ≡ Ok s
     from None e = absurd (cc)
     from (Some v) e = found (as_str v) e
 

@@ -10,7 +10,7 @@ use Rattle.kit_rules.specs.declared.table.Action.TheVariants as action
 use Rattle.kit_file.specs.declared.fault.FaultKind.TheVariants as kind
 use Rattle.kit_file.specs.declared.fault.Fault.{Fault}
 use Rattle.kit_file.specs.Paths.{key_path, item_path}
-use Rattle.kit_file.specs.Reading.{◌>>=◌, refused, within, guard, each}
+use Rattle.kit_file.specs.Reading.{◌>>=◌, fault_at, within, guard, each}
 use Rattle.kit_file.specs.Places.{object, has, number, list}
 use Rattle.kit_file.specs.Names.{var_name, group_name, reference}
 use Rattle.kit_file.specs.Operands.{operand_of}
@@ -80,7 +80,7 @@ ner_of d = do
 
 -- an action of the last three kinds, or of none
 unfoldable pub last_kinds_of : List Var → Option ℕ → Data → Result Action Fault
-last_kinds_of vars lookahead d = if has (codes "retract") d then retract_of vars lookahead d else (if has (codes "tar") d then tar_of d else (if has (codes "ner") d then ner_of d else refused kind.Missing []))
+last_kinds_of vars lookahead d = if has (codes "retract") d then retract_of vars lookahead d else (if has (codes "tar") d then tar_of d else (if has (codes "ner") d then ner_of d else fault_at kind.Missing []))
 
 -- an action: its kind is the first of the seven keys that it has
 unfoldable pub action_of : List Group → List Var → Option ℕ → Data → Result Action Fault

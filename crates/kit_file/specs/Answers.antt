@@ -12,9 +12,9 @@ use Rattle.kit_file.specs.declared.fault.FileFault.TheVariants as file
 use Rattle.kit_file.specs.Walk.{walk}
 
 -- the path of the root is a point, and every other begins with none
-abbrev pub rooted : List ℕ → List ℕ
-rooted [] = codes "."
-rooted (x ∷ path) = path
+abbrev pub path_text : List ℕ → List ℕ
+path_text [] = codes "."
+path_text (x ∷ path) = path
 
 -- the fault of a file, of this kind and at this path
 abbrev pub file_fault : FaultKind → List ℕ → FileFault
@@ -40,7 +40,7 @@ IsAccepted bytes p = (d : Data) × Says bytes d × (walk d ≡ Ok p)
 
 -- the bytes are a JSON text that the walk refuses, and this is its first fault
 abbrev pub IsFirstFault : List ℕ → FileFault → Type 0
-IsFirstFault bytes fault = (d : Data) × Says bytes d × (f : Fault) × (walk d ≡ Err f) × (fault ≡ file_fault f.kind (rooted f.path))
+IsFirstFault bytes fault = (d : Data) × Says bytes d × (f : Fault) × (walk d ≡ Err f) × (fault ≡ file_fault f.kind (path_text f.path))
 
 -- a fault with a path is the walk's first
 abbrev pub IsFaultAtPath : List ℕ → FileFault → Type 0

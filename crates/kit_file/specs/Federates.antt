@@ -9,7 +9,7 @@ use Rattle.kit_rules.specs.declared.table.Wish.TheVariants as wish
 use Rattle.kit_file.specs.declared.fault.FaultKind.TheVariants as kind
 use Rattle.kit_file.specs.declared.fault.Fault.{Fault}
 use Rattle.kit_file.specs.Paths.{key_path, item_path}
-use Rattle.kit_file.specs.Reading.{◌>>=◌, refused, within, each}
+use Rattle.kit_file.specs.Reading.{◌>>=◌, fault_at, within, each}
 use Rattle.kit_file.specs.Places.{object, has, member, number}
 use Rattle.kit_file.specs.Variables.{vars_of}
 use Rattle.kit_file.specs.Rules.{rules_of}
@@ -19,7 +19,7 @@ use Rattle.kit_file.specs.Lookaheads.{lookahead_of}
 abbrev pub request_of : Bool → Bool → Data → Result Wish Fault
 request_of true ner a = number (codes "tar") 1 most_time a >>= λ n. Ok (wish.Tar n)
 request_of false true a = number (codes "ner") 1 most_time a >>= λ n. Ok (wish.Ner n)
-request_of false false a = refused kind.Missing (key_path (codes "tar"))
+request_of false false a = fault_at kind.Missing (key_path (codes "tar"))
 
 -- the request that an object makes: TAR if it has both keys
 unfoldable pub wish_of : Data → Result Wish Fault

@@ -7,16 +7,16 @@ use Rattle.kit_rules.specs.declared.table.Group.{Group}
 use Rattle.kit_file.specs.declared.fault.FaultKind.TheVariants as kind
 use Rattle.kit_file.specs.declared.fault.Fault.{Fault}
 use Rattle.kit_file.specs.Paths.{item_path}
-use Rattle.kit_file.specs.Reading.{◌>>=◌, refused, within, required, each}
+use Rattle.kit_file.specs.Reading.{◌>>=◌, fault_at, within, or_fault, each}
 use Rattle.kit_file.specs.Places.{object, list, optional_list}
 use Rattle.kit_file.specs.Names.{itself, group_name, new_name, position_of}
 
 -- a federate that is named by a text, by its index
 unfoldable pub member_of : List (List ℕ) → ℕ → Data → Result ℕ Fault
 member_of names bits d = do
-  s ← required kind.WrongKind [] (as_str d)
-  j ← required kind.UnknownName [] (position_of itself names s)
-  if bit_and bits (2 ^ j) == 0 then Ok (bit_or bits (2 ^ j)) else refused kind.Repeated []
+  s ← or_fault kind.WrongKind [] (as_str d)
+  j ← or_fault kind.UnknownName [] (position_of itself names s)
+  if bit_and bits (2 ^ j) == 0 then Ok (bit_or bits (2 ^ j)) else fault_at kind.Repeated []
 
 -- one more member, the i-th of the list members
 unfoldable pub member_step : List (List ℕ) → ℕ → ℕ → Data → Result ℕ Fault

@@ -6,13 +6,13 @@ use Rattle.kit_rules.specs.Limits.{most_time}
 use Rattle.kit_file.specs.declared.fault.FaultKind.TheVariants as kind
 use Rattle.kit_file.specs.declared.fault.Fault.{Fault}
 use Rattle.kit_file.specs.Paths.{key_path}
-use Rattle.kit_file.specs.Reading.{◌>>=◌, required}
+use Rattle.kit_file.specs.Reading.{◌>>=◌, or_fault}
 use Rattle.kit_file.specs.Places.{number}
 
 -- what the key says; where it is absent the federate is regulating
 abbrev pub regulating_in : Option Data → Result Bool Fault
 regulating_in None = Ok true
-regulating_in (Some v) = required kind.WrongKind (key_path (codes "regulating")) (as_bool v)
+regulating_in (Some v) = or_fault kind.WrongKind (key_path (codes "regulating")) (as_bool v)
 
 -- whether a federate is regulating: in version 1 each is, and the key has no meaning
 unfoldable pub regulating_of : ℕ → Data → Result Bool Fault
@@ -31,4 +31,4 @@ lookahead_of version d = do
 
 -- the lookahead that an action of the kind of this key needs
 abbrev pub needed_lookahead : List ℕ → Option ℕ → Result ℕ Fault
-needed_lookahead key lookahead = required kind.NotRegulating (key_path key) lookahead
+needed_lookahead key lookahead = or_fault kind.NotRegulating (key_path key) lookahead

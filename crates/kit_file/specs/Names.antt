@@ -8,7 +8,7 @@ use Rattle.kit_rules.specs.Names.{is_name}
 use Rattle.kit_file.specs.declared.fault.FaultKind.TheVariants as kind
 use Rattle.kit_file.specs.declared.fault.Fault.{Fault}
 use Rattle.kit_file.specs.Paths.{key_path}
-use Rattle.kit_file.specs.Reading.{◌>>=◌, refused, required}
+use Rattle.kit_file.specs.Reading.{◌>>=◌, fault_at, or_fault}
 use Rattle.kit_file.specs.Places.{text, is_same}
 
 -- a name, of itself
@@ -27,7 +27,7 @@ group_name g = g.name
 unfoldable pub name : List ℕ → Data → Result (List ℕ) Fault
 name key d = do
   s ← text key d
-  if is_name s then Ok s else refused kind.OutOfRange (key_path key)
+  if is_name s then Ok s else fault_at kind.OutOfRange (key_path key)
 
 -- whether the name is that of one of those before
 abbrev pub is_given : {X : Type 0} → (X → List ℕ) → List X → List ℕ → Bool
@@ -35,7 +35,7 @@ is_given name_of done s = list_any (λ x. is_same (name_of x) s) done
 
 -- a name that none before has
 abbrev pub fresh : {X : Type 0} → (X → List ℕ) → List X → List ℕ → List ℕ → Result (List ℕ) Fault
-fresh name_of done key s = if is_given name_of done s then refused kind.Repeated (key_path key) else Ok s
+fresh name_of done key s = if is_given name_of done s then fault_at kind.Repeated (key_path key) else Ok s
 
 -- a name that is given, where others were given before
 unfoldable pub new_name : {X : Type 0} → (X → List ℕ) → List X → List ℕ → Data → Result (List ℕ) Fault
@@ -51,4 +51,4 @@ position_of name_of xs s = position (λ x. is_same (name_of x) s) xs
 unfoldable pub reference : {X : Type 0} → (X → List ℕ) → List X → List ℕ → Data → Result ℕ Fault
 reference name_of xs key d = do
   s ← text key d
-  required kind.UnknownName (key_path key) (position_of name_of xs s)
+  or_fault kind.UnknownName (key_path key) (position_of name_of xs s)

@@ -8,13 +8,13 @@ use Rattle.kit_rules.specs.declared.table.Operand.TheVariants as operand
 use Rattle.kit_file.specs.declared.fault.FaultKind.TheVariants as kind
 use Rattle.kit_file.specs.declared.fault.Fault.{Fault}
 use Rattle.kit_file.specs.Paths.{key_path}
-use Rattle.kit_file.specs.Reading.{◌>>=◌, required}
+use Rattle.kit_file.specs.Reading.{◌>>=◌, or_fault}
 use Rattle.kit_file.specs.Places.{member, number, is_same}
 use Rattle.kit_file.specs.Names.{var_name, position_of}
 
 -- a text: the two words, or the name of a variable
 unfoldable pub operand_text : List ℕ → List Var → List ℕ → Result Operand Fault
-operand_text key vars s = if is_same s (codes "$now") then Ok operand.Now else (if is_same s (codes "$value") then Ok operand.Value else (required kind.UnknownName (key_path key) (position_of var_name vars s) >>= λ v. Ok (operand.Var v)))
+operand_text key vars s = if is_same s (codes "$now") then Ok operand.Now else (if is_same s (codes "$value") then Ok operand.Value else (or_fault kind.UnknownName (key_path key) (position_of var_name vars s) >>= λ v. Ok (operand.Var v)))
 
 -- a number, or what the text says
 abbrev pub operand_in : List ℕ → List Var → Data → Option (List ℕ) → Result Operand Fault

@@ -6,7 +6,7 @@ use Rattle.serde_json.specs.Find.{get, as_number, as_u64, as_str, as_array, as_o
 use Rattle.kit_file.specs.declared.fault.FaultKind.TheVariants as kind
 use Rattle.kit_file.specs.declared.fault.Fault.{Fault}
 use Rattle.kit_file.specs.Paths.{key_path}
-use Rattle.kit_file.specs.Reading.{◌>>=◌, refused, required, guard}
+use Rattle.kit_file.specs.Reading.{◌>>=◌, fault_at, or_fault, guard}
 
 -- the value itself is an object
 unfoldable pub object : Data → Result (Unit {0}) Fault
@@ -18,20 +18,20 @@ has key d = is_some (get key d)
 
 -- what stands at a key that has to be there
 unfoldable pub member : List ℕ → Data → Result Data Fault
-member key d = required kind.Missing (key_path key) (get key d)
+member key d = or_fault kind.Missing (key_path key) (get key d)
 
 -- a whole number in a range
 unfoldable pub number : List ℕ → ℕ → ℕ → Data → Result ℕ Fault
 number key low high d = do
   v ← member key d
-  n ← required kind.WrongKind (key_path key) (option_and_then as_u64 (as_number v))
-  if nat_lt n low || nat_lt high n then refused kind.OutOfRange (key_path key) else Ok n
+  n ← or_fault kind.WrongKind (key_path key) (option_and_then as_u64 (as_number v))
+  if nat_lt n low || nat_lt high n then fault_at kind.OutOfRange (key_path key) else Ok n
 
 -- a text
 unfoldable pub text : List ℕ → Data → Result (List ℕ) Fault
 text key d = do
   v ← member key d
-  required kind.WrongKind (key_path key) (as_str v)
+  or_fault kind.WrongKind (key_path key) (as_str v)
 
 -- whether two texts are the same
 abbrev pub is_same : List ℕ → List ℕ → Bool
@@ -45,8 +45,8 @@ data_of (item d ds) = d ∷ data_of ds
 -- the members of a list that is the value at a key
 unfoldable pub list_of : List ℕ → ℕ → ℕ → Data → Result (List Data) Fault
 list_of key low high v = do
-  ds ← required kind.WrongKind (key_path key) (as_array v)
-  if nat_lt (length (data_of ds)) low || nat_lt high (length (data_of ds)) then refused kind.OutOfRange (key_path key) else Ok (data_of ds)
+  ds ← or_fault kind.WrongKind (key_path key) (as_array v)
+  if nat_lt (length (data_of ds)) low || nat_lt high (length (data_of ds)) then fault_at kind.OutOfRange (key_path key) else Ok (data_of ds)
 
 -- a list with so many members
 unfoldable pub list : List ℕ → ℕ → ℕ → Data → Result (List Data) Fault

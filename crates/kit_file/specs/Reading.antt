@@ -11,8 +11,8 @@ abbrev pub ◌>>=◌ : {A B : Type 0} → Result A Fault → (A → Result B Fau
 (Err e) >>= f = Err e
 
 -- a fault at a path
-abbrev pub refused : {A : Type 0} → FaultKind → List ℕ → Result A Fault
-refused k path = Err (record { kind = k; path = path })
+abbrev pub fault_at : {A : Type 0} → FaultKind → List ℕ → Result A Fault
+fault_at k path = Err (record { kind = k; path = path })
 
 -- the same, its fault seen from further out
 abbrev pub within : {A : Type 0} → List ℕ → Result A Fault → Result A Fault
@@ -20,14 +20,14 @@ within front (Ok x) = Ok x
 within front (Err f) = Err (record { kind = f.kind; path = front ++ f.path })
 
 -- what is there, where it has to be
-abbrev pub required : {A : Type 0} → FaultKind → List ℕ → Option A → Result A Fault
-required k path None = refused k path
-required k path (Some x) = Ok x
+abbrev pub or_fault : {A : Type 0} → FaultKind → List ℕ → Option A → Result A Fault
+or_fault k path None = fault_at k path
+or_fault k path (Some x) = Ok x
 
 -- a test that has to hold
 abbrev pub guard : Bool → FaultKind → List ℕ → Result (Unit {0}) Fault
 guard true k path = Ok tt
-guard false k path = refused k path
+guard false k path = fault_at k path
 
 -- the members of a list in order, numbered from i, each with what those before it came to
 abbrev pub each : {S : Type 0} → (ℕ → S → Data → Result S Fault) → ℕ → S → List Data → Result S Fault

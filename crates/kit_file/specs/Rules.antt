@@ -14,7 +14,7 @@ use Rattle.kit_rules.specs.declared.table.Rule.{Rule}
 use Rattle.kit_file.specs.declared.fault.FaultKind.TheVariants as kind
 use Rattle.kit_file.specs.declared.fault.Fault.{Fault}
 use Rattle.kit_file.specs.Paths.{key_path, item_path}
-use Rattle.kit_file.specs.Reading.{◌>>=◌, refused, within, required, each}
+use Rattle.kit_file.specs.Reading.{◌>>=◌, fault_at, within, or_fault, each}
 use Rattle.kit_file.specs.Places.{object, member, text, is_same, optional_list}
 use Rattle.kit_file.specs.Names.{group_name, reference}
 use Rattle.kit_file.specs.Operands.{operand_of}
@@ -28,7 +28,7 @@ named_comparison s = if is_same s (codes "lt") then Some compare.Lt else (if is_
 unfoldable pub comparison_of : Data → Result Compare Fault
 comparison_of d = do
   s ← text (codes "is") d
-  required kind.UnknownName (key_path (codes "is")) (named_comparison s)
+  or_fault kind.UnknownName (key_path (codes "is")) (named_comparison s)
 
 -- a condition: left, is, right
 unfoldable pub cond_of : List Var → Data → Result Cond Fault
@@ -62,7 +62,7 @@ got_of groups d = do
 
 -- at the start, on a grant, or on a message
 abbrev pub trigger_from : List Group → Data → Option (List ℕ) → Result Trigger Fault
-trigger_from groups v (Some s) = if is_same s (codes "start") then Ok trigger.Start else (if is_same s (codes "grant") then Ok trigger.Grant else refused kind.UnknownName (key_path (codes "on")))
+trigger_from groups v (Some s) = if is_same s (codes "start") then Ok trigger.Start else (if is_same s (codes "grant") then Ok trigger.Grant else fault_at kind.UnknownName (key_path (codes "on")))
 trigger_from groups v None = within (key_path (codes "on")) (got_of groups v)
 
 -- when a rule runs

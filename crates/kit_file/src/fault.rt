@@ -151,7 +151,7 @@ impl WalkEnd {
 }
 
 impl Fault {
-    ghost use Rattle.kit_file.specs.Answers.{rooted, file_fault};
+    ghost use Rattle.kit_file.specs.Answers.{path_text, file_fault};
 
     /// The fault of this kind at the value itself.
     pub(crate) fn here(alloc: Global, kind: FaultKind) -> Fault
@@ -210,7 +210,7 @@ impl Fault {
 
     /// The fault of the file, where the root was walked.
     pub(crate) fn of_file(self, alloc: Global) -> Result<FileFault, AllocError>
-        ensures { IfOk result (λ f. f ≡ file_fault self.kind (rooted self.path)) }
+        ensures { IfOk result (λ f. f ≡ file_fault self.kind (path_text self.path)) }
     {
         let bytes = match self.path.bytes.as_slice() {
             [] => Vec::from_slice(alloc, b".")?,

@@ -1,15 +1,10 @@
 -- What contracts see of guests on a floor that threads share.
 use Rattle.std.specs.Prelude.{ℕ}
-use Rattle.kit_ground.specs.declared.address.Reg.{Reg}
 use Rattle.kit_ground.specs.declared.ground.Protocol.{Ghosts}
 use Rattle.kit_ground.specs.declared.place.Place.{Place}
 use Rattle.kit_pool.specs.declared.guest.GuestSeat.{GuestSeat}
 use Rattle.kit_pool.specs.GuestViews.{IsGuestOn, IsNewGuestOn, guest_place_on}
 use Rattle.kit_floor.specs.declared.floor.TableFloor.{TableFloor}
-
--- the register with a federate's clock
-abbrev pub clock_of : ℕ → Reg
-clock_of k = record { owner = k; slot = 12 }
 
 module _ {P V O : Type 0} {g : Ghosts P V O} where
   -- the own place of a guest, where the client's views at first are these by the opening

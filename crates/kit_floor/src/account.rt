@@ -33,9 +33,15 @@ impl<P: Protocol> Model for FloorAccount<P> {
 
     ghost Value = { Account P.View };
 
-    ghost view = { λ a. record { buffers = a.buffers; words = slots_items a.closed.words; places = a.places.value } };
+    ghost view = { λ a. record {
+      buffers = a.buffers;
+      words = slots_items a.closed.words;
+      places = a.places.value;
+    } };
 
-    ghost invariant = { λ a. RuledWords P.rule a.buffers (slots_items a.closed.words) a.places.value × (length a.places.value ≡ a.federates) × IsFull a.closed.words × (slots_len a.closed.slots ≡ 0) };
+    ghost invariant = { λ a. RuledWords P.rule a.buffers (slots_items a.closed.words) a.places.value
+        × (length a.places.value ≡ a.federates) × IsFull a.closed.words
+        × (slots_len a.closed.slots ≡ 0) };
 }
 
 /// A seat that has taken all others in, of so many federates.
@@ -70,8 +76,10 @@ impl<P: Protocol> FloorAccount<P> {
         requires places { count_of_federates federates (desk_of all) ≡ federates }
         ensures buffers { result.buffers ≡ buffers }
         ensures many { length result.places ≡ federates }
-        ensures each { (k : ℕ) (p : _) → get_elem? (desk_of all) k ≡ some p → p.own.number < federates → get_elem? result.places p.own.number ≡ some p }
-        ensures sees { (k : ℕ) (p : _) → get_elem? (desk_of all) k ≡ some p → federates ≤ p.own.number → P.rule.sees (memory_at_end result) result.places p }
+        ensures each { (k : ℕ) (p : _) → get_elem? (desk_of all) k ≡ some p
+            → p.own.number < federates → get_elem? result.places p.own.number ≡ some p }
+        ensures sees { (k : ℕ) (p : _) → get_elem? (desk_of all) k ≡ some p
+            → federates ≤ p.own.number → P.rule.sees (memory_at_end result) result.places p }
     {
         let ending = Ending { all, federates };
         let places = Known::of::<Ending<P>, AllPlaces<P>>(&ending);
@@ -95,7 +103,8 @@ impl<P: Protocol> FloorAccount<P> {
     /// The closing word of a federate's clock.
     pub fn clock(&self, federate: u8) -> u64
         requires { federate < length self.now.places }
-        ensures { result ≡ memory_at_end self.now (Register (record { owner = federate; slot = 12 })) }
+        ensures { result ≡ memory_at_end self.now
+            (Register (record { owner = federate; slot = 12 })) }
     {
         let clock = Address::Register(Reg {
             owner: federate,

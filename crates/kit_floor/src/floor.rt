@@ -1,11 +1,10 @@
 //! The floor, and its seats.
-ghost use Rattle.std.specs.Prelude.{◌≡◌, ◌<◌, ◌≤◌, [], length, replicate, IfOk};
-ghost use Rattle.kit_ground.specs.Layout.{size_of};
+ghost use Rattle.std.specs.Prelude.{◌≡◌, ◌≤◌, []};
 ghost use Rattle.kit_pool.specs.Dealing.{IsLaidFor};
 ghost use Rattle.kit_pool.specs.Seats.{IsSized};
 
 use crate::{FloorAccount, FloorGround};
-use kit_ground::Protocol;
+use kit_ground::{Protocol, zeros};
 use kit_known::Known;
 use kit_pool::{Front, GuestSeat, SeatingTable, TableSeat, gather, gather_guests, lay};
 use std::alloc::{AllocError, Global};
@@ -27,23 +26,8 @@ pub struct TableFloor<P: Protocol> {
     buffers: u16,
     ghost laid: { IsLaidFor table.shared federates buffers },
     ghost within: { (1 ≤ federates) × (federates ≤ 16) × (1 ≤ buffers) × (buffers ≤ 1024) },
-    ghost sized: { IsSized [] table.shared.key.federates table.shared.key.buffers table.shared.table_id },
-}
-
-#[tactic(auto, unfolding(kit_ground::specs::Layout::mail_words))]
-/// The words of a new floor.
-fn zeros(alloc: Global, federates: u8, buffers: u16) -> Result<Vec<u64>, AllocError>
-    requires few { federates ≤ 16 }
-    requires small { buffers ≤ 1024 }
-    ensures all { IfOk result (λ words. words.items ≡ replicate (size_of federates buffers) 0) }
-    ensures some { IfOk result (λ words. 0 < length words.items) }
-{
-    let n = usize::from(federates);
-    let b = usize::from(buffers);
-    let m = (b + 63) / 64;
-    let mut words = Vec::new(alloc);
-    words.resize(13 * n + 1 + m * (n * n) + b * n + b * n * 2, 0)?;
-    Ok(words)
+    ghost sized: { IsSized [] table.shared.key.federates table.shared.key.buffers
+        table.shared.table_id },
 }
 
 impl<P: Protocol> TableFloor<P> {
@@ -55,7 +39,8 @@ impl<P: Protocol> TableFloor<P> {
     ghost use Rattle.kit_pool.specs.GuestViews.{guest_desk_of};
     ghost use Rattle.kit_pool.specs.Watching.{GuestsSee};
     ghost use Rattle.kit_floor.specs.Accounts.{memory_at_end};
-    ghost use Rattle.kit_floor.specs.FloorViews.{CanStand, IsNewSeatOf, buffers_of, federates_of, opening_of, place_of};
+    ghost use Rattle.kit_floor.specs.FloorViews.{CanStand, IsNewSeatOf, buffers_of, federates_of};
+    ghost use Rattle.kit_floor.specs.FloorViews.{opening_of, place_of};
     ghost use Rattle.kit_floor.specs.GuestViews.{IsGuestOf, IsNewGuestOf};
 
     /// A floor whose words are 0, with the client's opening, and its seats in the order of the
@@ -70,12 +55,14 @@ impl<P: Protocol> TableFloor<P> {
     ) -> Result<(TableFloor<P>, Vec<TableSeat<P>>), AllocError>
         requires federates { (1 ≤ federates) × (federates ≤ 16) }
         requires buffers { (1 ≤ buffers) × (buffers ≤ 1024) }
-        requires rule { P.rule.holds zero_memory (places_at_first (P.first opening.now.value) federates buffers) }
+        requires rule { P.rule.holds zero_memory
+            (places_at_first (P.first opening.now.value) federates buffers) }
         ensures federates { IfOk result (λ r. federates_of r.0 ≡ federates) }
         ensures buffers { IfOk result (λ r. buffers_of r.0 ≡ buffers) }
         ensures opening { IfOk result (λ r. opening_of r.0 ≡ opening.now.value) }
         ensures many { IfOk result (λ r. length r.1.items ≡ federates) }
-        ensures seats { IfOk result (λ r. (k : ℕ) (s : _) → get_elem? r.1.items k ≡ some s → IsNewSeatOf P.first r.0 k s) }
+        ensures seats { IfOk result (λ r. (k : ℕ) (s : _) → get_elem? r.1.items k ≡ some s
+            → IsNewSeatOf P.first r.0 k s) }
     {
         let (floor, seats, _) = TableFloor::lay_for(alloc, federates, buffers, 0, opening)?;
         Ok((floor, seats))
@@ -95,15 +82,18 @@ impl<P: Protocol> TableFloor<P> {
         requires federates { (1 ≤ federates) × (federates ≤ 16) }
         requires buffers { (1 ≤ buffers) × (buffers ≤ 1024) }
         requires guests { (1 ≤ guests) × (guests ≤ 4) }
-        requires rule { P.rule.holds zero_memory (places_at_first (P.first opening.now.value) federates buffers) }
+        requires rule { P.rule.holds zero_memory
+            (places_at_first (P.first opening.now.value) federates buffers) }
         requires sees { GuestsSee P.rule (P.first opening.now.value) federates buffers guests }
         ensures federates { IfOk result (λ r. federates_of r.0 ≡ federates) }
         ensures buffers { IfOk result (λ r. buffers_of r.0 ≡ buffers) }
         ensures opening { IfOk result (λ r. opening_of r.0 ≡ opening.now.value) }
         ensures many { IfOk result (λ r. length r.1.items ≡ federates) }
-        ensures seats { IfOk result (λ r. (k : ℕ) (s : _) → get_elem? r.1.items k ≡ some s → IsNewSeatOf P.first r.0 k s) }
+        ensures seats { IfOk result (λ r. (k : ℕ) (s : _) → get_elem? r.1.items k ≡ some s
+            → IsNewSeatOf P.first r.0 k s) }
         ensures watchers { IfOk result (λ r. length r.2.items ≡ guests) }
-        ensures guests { IfOk result (λ r. (k : ℕ) (s : _) → get_elem? r.2.items k ≡ some s → IsNewGuestOf P.first r.0 (federates + k) s) }
+        ensures guests { IfOk result (λ r. (k : ℕ) (s : _) → get_elem? r.2.items k ≡ some s
+            → IsNewGuestOf P.first r.0 (federates + k) s) }
     {
         TableFloor::lay_for(alloc, federates, buffers, guests, opening)
     }
@@ -119,15 +109,18 @@ impl<P: Protocol> TableFloor<P> {
         requires federates { (1 ≤ federates) × (federates ≤ 16) }
         requires buffers { (1 ≤ buffers) × (buffers ≤ 1024) }
         requires guests { guests ≤ 4 }
-        requires rule { P.rule.holds zero_memory (places_at_first (P.first opening.now.value) federates buffers) }
+        requires rule { P.rule.holds zero_memory
+            (places_at_first (P.first opening.now.value) federates buffers) }
         requires sees { GuestsSee P.rule (P.first opening.now.value) federates buffers guests }
         ensures federates { IfOk result (λ r. federates_of r.0 ≡ federates) }
         ensures buffers { IfOk result (λ r. buffers_of r.0 ≡ buffers) }
         ensures opening { IfOk result (λ r. opening_of r.0 ≡ opening.now.value) }
         ensures many { IfOk result (λ r. length r.1.items ≡ federates) }
-        ensures seats { IfOk result (λ r. (k : ℕ) (s : _) → get_elem? r.1.items k ≡ some s → IsNewSeatOf P.first r.0 k s) }
+        ensures seats { IfOk result (λ r. (k : ℕ) (s : _) → get_elem? r.1.items k ≡ some s
+            → IsNewSeatOf P.first r.0 k s) }
         ensures watchers { IfOk result (λ r. length r.2.items ≡ guests) }
-        ensures guests { IfOk result (λ r. (k : ℕ) (s : _) → get_elem? r.2.items k ≡ some s → IsNewGuestOf P.first r.0 (federates + k) s) }
+        ensures guests { IfOk result (λ r. (k : ℕ) (s : _) → get_elem? r.2.items k ≡ some s
+            → IsNewGuestOf P.first r.0 (federates + k) s) }
     {
         let words = zeros(alloc, federates, buffers)?;
         let (table, seats, watchers) = lay::<P, Whole>(
@@ -155,14 +148,15 @@ impl<P: Protocol> TableFloor<P> {
         FloorGround { floor: self, seat }
     }
 
-    /// Takes all seats of federates in, whatever their order is; guests are let go. No thread shares
-    /// the floor any more.
+    /// Takes all seats of federates in, whatever their order is; guests are let go. No thread
+    /// shares the floor any more.
     pub fn close(self, seats: Vec<TableSeat<P>>) -> FloorAccount<P>
         requires count { length seats.items ≡ federates_of self }
         requires seats { (k : ℕ) (s : _) → get_elem? seats.items k ≡ some s → CanStand self s }
         ensures buffers { result.buffers ≡ buffers_of self }
         ensures many { length result.places ≡ federates_of self }
-        ensures each { (k : ℕ) (s : _) → get_elem? seats.items k ≡ some s → let p = place_of P.first self s in get_elem? result.places p.own.number ≡ some p }
+        ensures each { (k : ℕ) (s : _) → get_elem? seats.items k ≡ some s
+            → let p = place_of P.first self s in get_elem? result.places p.own.number ≡ some p }
         ensures rules { RuledWords P.rule result.buffers result.words result.places }
     {
         let TableFloor {
@@ -176,8 +170,8 @@ impl<P: Protocol> TableFloor<P> {
         account
     }
 
-    /// Takes all seats of federates in, as `close` does, and those of guests. What the client asks of
-    /// guests holds of each guest at the end.
+    /// Takes all seats of federates in, as `close` does, and those of guests. What the client asks
+    /// of guests holds of each guest at the end.
     pub fn close_watched(
         self,
         seats: Vec<TableSeat<P>>,
@@ -188,9 +182,12 @@ impl<P: Protocol> TableFloor<P> {
         requires guests { (k : ℕ) (s : _) → get_elem? guests.items k ≡ some s → IsGuestOf self s }
         ensures buffers { result.buffers ≡ buffers_of self }
         ensures many { length result.places ≡ federates_of self }
-        ensures each { (k : ℕ) (s : _) → get_elem? seats.items k ≡ some s → let p = place_of P.first self s in get_elem? result.places p.own.number ≡ some p }
+        ensures each { (k : ℕ) (s : _) → get_elem? seats.items k ≡ some s
+            → let p = place_of P.first self s in get_elem? result.places p.own.number ≡ some p }
         ensures rules { RuledWords P.rule result.buffers result.words result.places }
-        ensures sees { (k : ℕ) (s : _) → get_elem? guests.items k ≡ some s → (j : ℕ) (g : _) → get_elem? (guest_desk_of s) j ≡ some g → P.rule.sees (memory_at_end result) result.places g }
+        ensures sees { (k : ℕ) (s : _) → get_elem? guests.items k ≡ some s → (j : ℕ) (g : _)
+            → get_elem? (guest_desk_of s) j ≡ some g
+            → P.rule.sees (memory_at_end result) result.places g }
     {
         let TableFloor {
             table,

@@ -5,9 +5,10 @@ ghost use Rattle.kit_ground.specs.declared.place.Deed.TheVariants.{Looked, SawSt
 ghost use Rattle.kit_ground.specs.Guests.{GuestKeeps};
 ghost use Rattle.kit_ground.specs.Steps.{place_after};
 ghost use Rattle.kit_pool.specs.GuestViews.{IsSameGuestSeat, guest_desk_of, guests_with};
-ghost use Rattle.kit_pool.specs.Watching.{WasSeen};
+ghost use Rattle.kit_ground.specs.Guests.{WasSeen};
 ghost use Rattle.kit_floor.specs.FloorViews.{federates_of};
-ghost use Rattle.kit_floor.specs.GuestViews.{IsGuestOf, clock_of, guest_place_of};
+ghost use Rattle.kit_floor.specs.GuestViews.{IsGuestOf, guest_place_of};
+ghost use Rattle.kit_ground.specs.Layout.{clock_of};
 
 use crate::{TableFloor, Whole};
 use kit_ground::{Address, Deed, Event, Protocol, Reg};
@@ -18,16 +19,20 @@ use std::marker::Brand;
 const CLOCK: u8 = 12;
 
 impl<P: Protocol> TableFloor<P> {
-    /// A guest looks at a federate's clock. By `E` its client's view changes, and the caller shows that
-    /// what the client asks of guests holds after the look. It is told that both rules held at the
-    /// look, with the clock that was found.
+    /// A guest looks at a federate's clock. By `E` its client's view changes, and the caller shows
+    /// that what the client asks of guests holds after the look. It is told that both rules held at
+    /// the look, with the clock that was found.
     pub fn clock<E: Event<P::View>>(&self, guest: &mut GuestSeat<P>, federate: u8) -> u64
         requires guest { IsGuestOf self.now guest.old }
         requires federate { federate < federates_of self.now }
-        requires rule { GuestKeeps P.rule E.next (guest_place_of P.first self.now guest.old) (Register (clock_of federate)) (λ word. Looked (clock_of federate) word) }
+        requires rule { GuestKeeps P.rule E.next (guest_place_of P.first self.now guest.old)
+            (Register (clock_of federate)) (λ word. Looked (clock_of federate) word) }
         ensures same { IsSameGuestSeat guest.old guest.new }
-        ensures place { guest_desk_of guest.new ≡ place_after E.next (Looked (clock_of federate) result) (guest_place_of P.first self.now guest.old) ∷ guests_with guest.old }
-        ensures told { WasSeen P.rule (guest_place_of P.first self.now guest.old) (Register (clock_of federate)) result }
+        ensures place { guest_desk_of guest.new
+            ≡ place_after E.next (Looked (clock_of federate) result)
+            (guest_place_of P.first self.now guest.old) ∷ guests_with guest.old }
+        ensures told { WasSeen P.rule (guest_place_of P.first self.now guest.old)
+            (Register (clock_of federate)) result }
     {
         let reg = Reg {
             owner: federate,
@@ -42,10 +47,14 @@ impl<P: Protocol> TableFloor<P> {
     /// A guest looks whether the stop word is 1.
     pub fn stopped<E: Event<P::View>>(&self, guest: &mut GuestSeat<P>) -> bool
         requires guest { IsGuestOf self.now guest.old }
-        requires rule { GuestKeeps P.rule E.next (guest_place_of P.first self.now guest.old) Stop (λ word. SawStop (word == 1)) }
+        requires rule { GuestKeeps P.rule E.next (guest_place_of P.first self.now guest.old) Stop
+            (λ word. SawStop (word == 1)) }
         ensures same { IsSameGuestSeat guest.old guest.new }
-        ensures place { guest_desk_of guest.new ≡ place_after E.next (SawStop result) (guest_place_of P.first self.now guest.old) ∷ guests_with guest.old }
-        ensures told { (found : ℕ) × WasSeen P.rule (guest_place_of P.first self.now guest.old) Stop found × (result ≡ (found == 1)) }
+        ensures place { guest_desk_of guest.new
+            ≡ place_after E.next (SawStop result)
+            (guest_place_of P.first self.now guest.old) ∷ guests_with guest.old }
+        ensures told { (found : ℕ) × WasSeen P.rule
+            (guest_place_of P.first self.now guest.old) Stop found × (result ≡ (found == 1)) }
     {
         let address = Address::Stop;
         let at = address.index(guest.federates(), guest.buffers());

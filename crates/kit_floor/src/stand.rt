@@ -38,9 +38,12 @@ impl<P: Protocol> Ground for FloorGround<'_, P> {
 
     ghost place = { λ g. place_of P.first g.floor.now g.seat };
 
-    ghost did = { λ g deed h. WasAllowedStep P.rule (place_of P.first g.floor.now g.seat) deed (place_of P.first h.floor.now h.seat) };
+    ghost did = { λ g deed h. WasAllowedStep P.rule (place_of P.first g.floor.now g.seat) deed
+        (place_of P.first h.floor.now h.seat) };
 
-    ghost came = { λ g h. AreStepsOfSeat g.floor.now g.seat.number (place_of P.first g.floor.now g.seat) h.floor.now h.seat.number (place_of P.first h.floor.now h.seat) };
+    ghost came = { λ g h. AreStepsOfSeat g.floor.now g.seat.number
+        (place_of P.first g.floor.now g.seat) h.floor.now h.seat.number
+        (place_of P.first h.floor.now h.seat) };
 
     fn me(&self) -> u8 {
         self.seat.number()
@@ -181,11 +184,15 @@ impl<P: Protocol> Ground for FloorGround<'_, P> {
         seat.take_one::<Whole, Brand, E>(&floor.table, at, address, about);
     }
 
-    ghost came_here = { λ g. came_here g.floor.now g.seat.number (place_of P.first g.floor.now g.seat) };
+    ghost came_here = { λ g. came_here g.floor.now g.seat.number
+        (place_of P.first g.floor.now g.seat) };
 
-    ghost came_on = { λ g h k a b. came_on g.floor.now g.seat.number _ h.floor.now h.seat.number _ k.floor.now k.seat.number _ a b };
+    ghost came_on = { λ g h k a b.
+        came_on g.floor.now g.seat.number _ h.floor.now h.seat.number _ k.floor.now k.seat.number _
+        a b };
 
     ghost came_same = { λ g h a. came_same g.floor.now g.seat.number _ h.floor.now h.seat.number _ a };
 
-    ghost came_later = { λ g h a. came_later g.floor.now g.seat.number _ h.floor.now h.seat.number _ a };
+    ghost came_later = { λ g h a. came_later g.floor.now g.seat.number _ h.floor.now h.seat.number _
+        a };
 }

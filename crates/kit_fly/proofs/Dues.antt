@@ -13,7 +13,7 @@ use Rattle.kit_lbts.specs.declared.view.LbtsView.{LbtsView}
 use Rattle.kit_lbts.specs.Agreement.{agreeing_rule}
 use Rattle.kit_lbts.specs.Progress.{own_share, view_after}
 use Rattle.kit_lbts.specs.Promises.{result_at}
-use Rattle.kit_lbts.specs.Reduction.{back_stage, has_outer, needed, published_share, publishes, reg_of, share_with_taken}
+use Rattle.kit_lbts.specs.Reduction.{back_stage, has_outer, shares_needed, published_share, publishes, reg_of, share_with_taken}
 use Rattle.kit_lbts.proofs.Gathering.{shift}
 use Rattle.kit_lbts.proofs.WithAgreement.{backs_agree, values_agree}
 use Rattle.kit_fly.specs.Rounds.{RoundState}
@@ -41,14 +41,14 @@ module _ (k : RoundState) (p : P) (h : HoldsValue k p) (stage : ℕ) (due : IsDu
   does : publishes p.client.scheme p.own.federates p.own.number stage ≡ true
   does = (λ i. publishes (h.scheme_is i) (h.federates i) (h.number i) stage) ∙ due.published
 
-  many : needed p.client.scheme p.own.federates p.own.number stage ≡ k.taken
-  many = (λ i. needed (h.scheme_is i) (h.federates i) (h.number i) stage) ∙ due.now
+  many : shares_needed p.client.scheme p.own.federates p.own.number stage ≡ k.taken
+  many = (λ i. shares_needed (h.scheme_is i) (h.federates i) (h.number i) stage) ∙ due.now
 
   -- a value on the way
   value_kept : IsValue k.federates k.number stage → IsOnTheWay k p → Kept p stage (k.number, k.round, k.value)
   value_kept v way =
       let u = way.under_way in
-      let has : needed p.client.scheme p.own.federates p.own.number stage ≡ length p.client.taken = many ∙ sym u.taken in
+      let has : shares_needed p.client.scheme p.own.federates p.own.number stage ≡ length p.client.taken = many ∙ sym u.taken in
       let share : published_share p.client.scheme p.own.federates p.own.number (own_share p.client) p.client.taken stage ≡ k.value =
       ap (λ t. share_with_taken p.client.scheme p.own.federates p.own.number (own_share p.client) (take t p.client.taken)) has
       ∙ (ap (share_with_taken p.client.scheme p.own.federates p.own.number (own_share p.client)) (take_all (length p.client.taken) p.client.taken (omega arith))

@@ -17,7 +17,7 @@ use Rattle.kit_lbts.specs.declared.view.Scheme.TheVariants.{Flat, Butterfly}
 use Rattle.kit_lbts.specs.declared.view.LbtsView.{LbtsView}
 use Rattle.kit_lbts.specs.Progress.{own_share}
 use Rattle.kit_lbts.specs.Promises.{ledgers_of, result_at, unknown}
-use Rattle.kit_lbts.specs.Reduction.{Source, back_stage, handed_back, has_outer, needed, published_share, publishes, share_stage, share_with_taken, source, sources}
+use Rattle.kit_lbts.specs.Reduction.{Source, back_stage, handed_back, has_outer, shares_needed, published_share, publishes, share_stage, share_with_taken, source, sources}
 use Rattle.kit_lbts.specs.Registers.{IsKnown, IsPlace, Learnt, shares_at}
 use Rattle.kit_lbts.specs.Rule.{lbts_rule}
 use Rattle.kit_lbts.proofs.Fitting.{counts_few, value_fits}
@@ -126,7 +126,7 @@ module _ (p : P) (m : Memory) (places : List P) (w : World lbts_rule p m places)
               let last : s < stages n = omega (arith, after, less, long) in
               let early : s < 4 = omega (arith, last, few_stages n (omega (arith, inside)) w.floor.few) in
               let does : publishes p.client.scheme n j s ≡ true = ap (λ c. publishes c n j s) is ∙ values_published n j s early within (inr last) in
-              let all : needed p.client.scheme n j s ≡ t = ap (λ c. needed c n j s) is ∙ (many_values n j s (λ e. omega (arith, e, early)) (λ e. omega (arith, e, early)) ∙ omega (arith, after)) in
+              let all : shares_needed p.client.scheme n j s ≡ t = ap (λ c. shares_needed c n j s) is ∙ (many_values n j s (λ e. omega (arith, e, early)) (λ e. omega (arith, e, early)) ∙ omega (arith, after)) in
               let known = stage_known places j p w.here w.floor.few learnt way s early does (omega (arith, all)) (value_fits p m places w) in
               let same : published_share p.client.scheme n j (own_share p.client) p.client.taken s ≡ fold share_sum (own_share p.client) p.client.taken =
               ap (λ x. share_with_taken p.client.scheme n j (own_share p.client) (take x p.client.taken)) all

@@ -19,7 +19,7 @@ use Rattle.kit_lbts.specs.declared.view.Scheme.TheVariants.{Flat, Butterfly}
 use Rattle.kit_lbts.specs.declared.view.LbtsView.{LbtsView}
 use Rattle.kit_lbts.specs.Progress.{own_share, view_after, view_after_close, view_after_publish}
 use Rattle.kit_lbts.specs.Promises.{result_at, unknown}
-use Rattle.kit_lbts.specs.Reduction.{needed, publishes, reg_of, share_stage, share_with_taken, sources}
+use Rattle.kit_lbts.specs.Reduction.{shares_needed, publishes, reg_of, share_stage, share_with_taken, sources}
 use Rattle.kit_lbts.specs.SeatLaws.{IsInWorld}
 use Rattle.kit_fly.specs.Rounds.{FollowsRound, LeavesSeat, LeavesSlots, RoundState, SlotsShowRound, all_registers, register_after, register_in, shown_word}
 use Rattle.kit_fly.specs.Polls.{IsNew, IsNotYet, IsResult, TakesIn, look_after, look_at}
@@ -306,11 +306,11 @@ module _ (k0 k : RoundState) (p q : P) (c : Came Butterfly k0 p k q) (new : k0.t
 
 -- what is shown then
 pub shows_due : (k : RoundState) (q r : P) → length q.own.shown ≡ 13 → FitsWord k.value → ShowsDue k q r → Shows (shown_word k q 4) k.round
-    → ((stage : ℕ) → stage < 6 → publishes Butterfly k.federates k.number stage ≡ true → needed Butterfly k.federates k.number stage < k.taken → Shows (shown_word k q stage) k.round)
+    → ((stage : ℕ) → stage < 6 → publishes Butterfly k.federates k.number stage ≡ true → shares_needed Butterfly k.federates k.number stage < k.taken → Shows (shown_word k q stage) k.round)
     → SlotsShowRound Butterfly k r
 shows_due k q r long fits d own before stage known does le = by_slot d.stage d.due d.place
   where
-    earlier : needed Butterfly k.federates k.number stage ≢ k.taken → Shows (shown_word k q stage) k.round
+    earlier : shares_needed Butterfly k.federates k.number stage ≢ k.taken → Shows (shown_word k q stage) k.round
     earlier ne = before stage known does (grind (arith, le, ne))
 
     its_own : stage ≡ 4 → Shows (shown_word k q stage) k.round
@@ -335,7 +335,7 @@ shows_due k q r long fits d own before stage known does le = by_slot d.stage d.d
 -- and where the share is published alone
 pub flat_shown : (k : RoundState) (value : Share) (q r : P) → r.own.shown ≡ q.own.shown → SlotsShowRound Flat k q → SlotsShowRound Flat (next_state k value) r
 flat_shown k value q r same shown stage known does le =
-    let none : needed Flat k.federates k.number stage ≡ 0 = ap (needed Flat k.federates k.number) (eqb-true stage share_stage does) in
+    let none : shares_needed Flat k.federates k.number stage ≡ 0 = ap (shares_needed Flat k.federates k.number) (eqb-true stage share_stage does) in
     subst (λ l. Shows (slice_index l (reg_of k.number stage k.round).slot) k.round) (sym same) (shown stage known does (omega (arith, none)))
 
 -- ---- what a look comes to
@@ -469,12 +469,12 @@ module _ (k0 k : RoundState) (p q : P) (c : Came Butterfly k0 p k q) (new : k0.t
         by_slot (Some a) due is = subst (λ (x : P). Came Butterfly k0 p k x) (sym is) (publish_on k0 k p q c new a due.0 (subst IsInWorld is world))
 
     -- the slots of what was taken in before show the round, so all do
-    pub shown_slots : FitsWord k.value → ((stage : ℕ) → stage < 6 → publishes Butterfly k.federates k.number stage ≡ true → needed Butterfly k.federates k.number stage < k.taken → Shows (shown_word k q stage) k.round) → SlotsShowRound Butterfly k r
+    pub shown_slots : FitsWord k.value → ((stage : ℕ) → stage < 6 → publishes Butterfly k.federates k.number stage ≡ true → shares_needed Butterfly k.federates k.number stage < k.taken → Shows (shown_word k q stage) k.round) → SlotsShowRound Butterfly k r
     shown_slots fits before = shows_due k q r (own_in q c.world).shown fits d (before 4 (omega arith) refl (omega (arith, new))) before
 
 -- the slots of what was taken in before the last register show the round
 abbrev pub ShowsBefore : RoundState → P → Type 0
-ShowsBefore k q = (stage : ℕ) → stage < 6 → publishes Butterfly k.federates k.number stage ≡ true → needed Butterfly k.federates k.number stage < k.taken → Shows (shown_word k q stage) k.round
+ShowsBefore k q = (stage : ℕ) → stage < 6 → publishes Butterfly k.federates k.number stage ≡ true → shares_needed Butterfly k.federates k.number stage < k.taken → Shows (shown_word k q stage) k.round
 
 pub shows_before : (k : RoundState) (value : Share) (q r : P) → r.own.shown ≡ q.own.shown → SlotsShowRound Butterfly k q → ShowsBefore (next_state k value) r
 shows_before k value q r same shown stage known does lt = shown_still Butterfly k q r same shown stage known does (omega (arith, lt))

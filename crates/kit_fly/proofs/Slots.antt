@@ -6,7 +6,7 @@ use Rattle.kit_model.specs.Blocks.{width, stages}
 use Rattle.kit_model.proofs.Widths.{width_is_greatest}
 use Rattle.kit_lbts.specs.declared.view.Scheme.{Scheme}
 use Rattle.kit_lbts.specs.declared.view.Scheme.TheVariants.{Flat, Butterfly}
-use Rattle.kit_lbts.specs.Reduction.{back_stage, has_outer, is_outer, needed, publishes, share_stage, sources}
+use Rattle.kit_lbts.specs.Reduction.{back_stage, has_outer, is_outer, shares_needed, publishes, share_stage, sources}
 use Rattle.kit_lbts.proofs.Gathering.{shift}
 use Rattle.kit_fly.specs.Stages.{IsDue, IsDueSlot}
 use Rattle.kit_fly.proofs.Sources.{inner_is, inner_long}
@@ -16,7 +16,7 @@ pub record IsValue (n x stage : ℕ) : Type 0 where
   pub early : stage < 4
   pub inside : x < width n
   pub last : (stage ≡ 0) ⊎ (stage < stages n)
-  pub many : needed Butterfly n x stage ≡ stage + shift (has_outer n x)
+  pub many : shares_needed Butterfly n x stage ≡ stage + shift (has_outer n x)
 
 -- the result, for the outer federate
 pub record IsBack (n x stage : ℕ) : Type 0 where
@@ -24,7 +24,7 @@ pub record IsBack (n x stage : ℕ) : Type 0 where
   pub inside : x < width n
   pub outer : width n + x < n
   pub one : shift (has_outer n x) ≡ 1
-  pub many : needed Butterfly n x stage ≡ stages n + 1
+  pub many : shares_needed Butterfly n x stage ≡ stages n + 1
 
 opened : (b : Bool) → not b ≡ true → b ≡ false
 opened true e = absurd (false≢true e)
@@ -49,7 +49,7 @@ none_of false = refl
 many_of : (a b : Bool) (all one : ℕ) → a ≡ false → b ≡ false → cond a 0 (cond b all one) ≡ one
 many_of a b all one ea eb = ap (λ t. cond t 0 (cond b all one)) ea ∙ ap (λ t. cond t all one) eb
 
-pub many_values : (n x stage : ℕ) → stage ≢ 4 → stage ≢ 5 → needed Butterfly n x stage ≡ stage + shift (has_outer n x)
+pub many_values : (n x stage : ℕ) → stage ≢ 4 → stage ≢ 5 → shares_needed Butterfly n x stage ≡ stage + shift (has_outer n x)
 many_values n x stage four five =
     many_of (stage == share_stage) (stage == back_stage) (length (sources Butterfly n x)) (stage + shift (has_outer n x)) (ne_eqb stage share_stage four) (ne_eqb stage back_stage five)
 
@@ -74,7 +74,7 @@ back_is n x stage five does =
     let parts = and_parts (nat_lt x (width n)) (nat_lt (width n + x) n) has in
     let inside = ltb-true x (width n) parts.0 in
     let one : shift (has_outer n x) ≡ 1 = ap shift has in
-    let all : needed Butterfly n x stage ≡ length (sources Butterfly n x) = ap (needed Butterfly n x) five in
+    let all : shares_needed Butterfly n x stage ≡ length (sources Butterfly n x) = ap (shares_needed Butterfly n x) five in
     record {
       five = five;
       inside = inside;
@@ -110,10 +110,10 @@ pub back_published : (n x : ℕ) → has_outer n x ≡ true → publishes Butter
 back_published n x has = ap (λ b. b || false) has
 
 -- no more is needed than there is
-pub few_needed : (scheme : Scheme) (n x stage : ℕ) → publishes scheme n x stage ≡ true → needed scheme n x stage ≤ length (sources scheme n x)
-few_needed Flat n x stage does = let none : needed Flat n x stage ≡ 0 = ap (needed Flat n x) (eqb-true stage share_stage does) in omega (arith, none)
+pub few_needed : (scheme : Scheme) (n x stage : ℕ) → publishes scheme n x stage ≡ true → shares_needed scheme n x stage ≤ length (sources scheme n x)
+few_needed Flat n x stage does = let none : shares_needed Flat n x stage ≡ 0 = ap (shares_needed Flat n x) (eqb-true stage share_stage does) in omega (arith, none)
 few_needed Butterfly n x stage does = elim (cases_eq stage 4) [
-  | inl four ↦ let none : needed Butterfly n x stage ≡ 0 = ap (needed Butterfly n x) four in omega (arith, none)
+  | inl four ↦ let none : shares_needed Butterfly n x stage ≡ 0 = ap (shares_needed Butterfly n x) four in omega (arith, none)
   | inr other ↦ elim (published_is n x stage other does) [
     | inl v ↦ elim v.last [
       | inl e ↦ omega (arith, v.many, inner_long n x v.inside, e)

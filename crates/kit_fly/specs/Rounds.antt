@@ -8,7 +8,7 @@ use Rattle.kit_lbts.specs.declared.view.Scheme.{Scheme}
 use Rattle.kit_lbts.specs.declared.view.LbtsView.{LbtsView}
 use Rattle.kit_lbts.specs.Progress.{own_share}
 use Rattle.kit_lbts.specs.Promises.{result_at}
-use Rattle.kit_lbts.specs.Reduction.{share_with_taken, needed, publishes, reg_of, source, sources}
+use Rattle.kit_lbts.specs.Reduction.{share_with_taken, shares_needed, publishes, reg_of, source, sources}
 
 -- of how many federates it is, whose it is, the round that was started last, what is known of that, and how many
 -- registers were taken in
@@ -58,13 +58,13 @@ shown_word k p stage = slice_index p.own.shown (reg_of k.number stage k.round).s
 
 -- each own slot that is published from the registers taken in shows the round
 abbrev pub SlotsShowRound : Scheme → RoundState → Place LbtsView → Type 0
-SlotsShowRound scheme k p = (stage : ℕ) → stage < 6 → publishes scheme k.federates k.number stage ≡ true → needed scheme k.federates k.number stage ≤ k.taken
+SlotsShowRound scheme k p = (stage : ℕ) → stage < 6 → publishes scheme k.federates k.number stage ≡ true → shares_needed scheme k.federates k.number stage ≤ k.taken
     → Shows (shown_word k p stage) k.round
 
 -- each own slot is as before, but for those that are published once so many registers are taken in
 abbrev pub LeavesSlots : Scheme → RoundState → (ℕ → Type 0) → Place LbtsView → Place LbtsView → Type 0
 LeavesSlots scheme k IsReached p q = (slot : ℕ) → slot < 13
-    → ((stage : ℕ) → stage < 6 → publishes scheme k.federates k.number stage ≡ true → IsReached (needed scheme k.federates k.number stage) → slot ≢ (reg_of k.number stage k.round).slot)
+    → ((stage : ℕ) → stage < 6 → publishes scheme k.federates k.number stage ≡ true → IsReached (shares_needed scheme k.federates k.number stage) → slot ≢ (reg_of k.number stage k.round).slot)
     → slice_index q.own.shown slot ≡ slice_index p.own.shown slot
 
 -- WHAT IS LEFT of what a seat knows of itself: all but its looks and its own slots. Steps are counted

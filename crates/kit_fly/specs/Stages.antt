@@ -2,7 +2,7 @@
 use Rattle.std.specs.Prelude.{◌≡◌, ◌≢◌, ℕ, ◌+◌, ◌*◌, ◌^◌, ◌<◌, ◌≤◌, nat_lt, true, if◌then◌else◌, Option, None, Some}
 use Rattle.kit_model.specs.Blocks.{stages}
 use Rattle.kit_lbts.specs.declared.view.Scheme.TheVariants.{Butterfly}
-use Rattle.kit_lbts.specs.Reduction.{needed, publishes, share_stage}
+use Rattle.kit_lbts.specs.Reduction.{shares_needed, publishes, share_stage}
 
 -- s is the exponent of the greatest power of two that is not above n
 abbrev pub IsExponent : ℕ → ℕ → Type 0
@@ -25,7 +25,7 @@ pub record IsDue (n x taken stage : ℕ) : Type 0 where
   pub known : stage < 6
   pub other : stage ≢ share_stage
   pub published : publishes Butterfly n x stage ≡ true
-  pub now : needed Butterfly n x stage ≡ taken
+  pub now : shares_needed Butterfly n x stage ≡ taken
 
 -- it is the one that is due, or none is
 abbrev pub IsDueSlot : ℕ → ℕ → ℕ → Option ℕ → Type 0

@@ -67,7 +67,8 @@ fn rule_of(
     conds: &[Cond],
     actions: &[Action],
 ) -> Result<Rule, AllocError>
-    ensures { IfOk result (λ made. made ≡ record { on = on; conds = conds.now; actions = actions.now }) }
+    ensures { IfOk result (λ made. made
+        ≡ record { on = on; conds = conds.now; actions = actions.now }) }
 {
     Ok(Rule {
         on,

@@ -19,3 +19,7 @@ module _ {V : Type 0} where
   -- in every such world the rule of guests holds of it after a look at this address
   abbrev pub GuestKeeps : Rule V → (Deed → Place V → V) → Place V → Address → (ℕ → Deed) → Type 0
   GuestKeeps rule next g a deed = (m : Memory) (places : List (Place V)) → GuestWorld rule g m places → rule.sees m places (place_after next (deed (m a)) g)
+
+  -- there was a world of this guest, and this word was in it
+  abbrev pub WasSeen : Rule V → Place V → Address → ℕ → Type 0
+  WasSeen rule g a word = (m : Memory) × (places : List (Place V)) × GuestWorld rule g m places × (m a ≡ word)

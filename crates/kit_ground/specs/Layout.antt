@@ -2,7 +2,12 @@
 use Rattle.std.specs.Prelude.{ℕ, ◌+◌, ◌*◌, ◌/◌, nat_lt, Bool, true, ◌&&◌, if◌then◌else◌, List, slice_index}
 use Rattle.kit_ground.specs.declared.address.Address.{Address}
 use Rattle.kit_ground.specs.declared.address.Address.TheVariants.{Register, Stop, Mail, Count, Part}
+use Rattle.kit_ground.specs.declared.address.Reg.{Reg}
 use Rattle.kit_ground.specs.Memory.{Memory}
+
+-- the register with a federate's clock
+abbrev pub clock_of : ℕ → Reg
+clock_of owner = record { owner = owner; slot = 12 }
 
 -- how many mail words there are for each pair of federates: one for every 64 buffers
 unfoldable pub mail_words : ℕ → ℕ

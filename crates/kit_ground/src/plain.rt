@@ -7,7 +7,7 @@ mod seat;
 
 use crate::{Address, Deed, Event, Place, Protocol};
 use kit_known::Known;
-use notes::{counted, first_places, no_steps, noted};
+use notes::{count_step, first_places, no_steps, note_step};
 use std::alloc::{AllocError, Global};
 use std::collections::LinkedList;
 use std::marker::Model;
@@ -143,8 +143,8 @@ impl<P: Protocol> PlainFloor<P> {
     {
         let me = self.seated;
         self.words[at] = word;
-        self.places = noted::<P::View, E>(&self.places, me, deed);
-        self.steps = counted(&self.steps, me);
+        self.places = note_step::<P::View, E>(&self.places, me, deed);
+        self.steps = count_step(&self.steps, me);
     }
 
     /// A step of the seat that is seated, whatever word it finds. It gives that word.

@@ -30,14 +30,14 @@ use Rattle.kit_lbts.specs.declared.view.Filled.{Filled}
 use Rattle.kit_lbts.specs.declared.view.InHand.{InHand}
 use Rattle.kit_lbts.specs.declared.view.Posting.{Posting}
 use Rattle.kit_lbts.specs.declared.view.LbtsView.{LbtsView}
-use Rattle.kit_lbts.specs.Views.{entries_of, has_receiver, is_in_hand, is_spent, receipts, received, time_of, transported_of}
+use Rattle.kit_lbts.specs.Views.{entries_of, has_receiver, is_in_hand, is_spent, receipts, messages_received, time_of, transported_of}
 use Rattle.kit_lbts.specs.Promises.{bound_of, copy_posted, copy_received, ledger_of, ledgers_of, stamp_of}
 use Rattle.kit_lbts.specs.Letters.{IsLetter, letter_in}
 use Rattle.kit_lbts.specs.MessageLaws.{HasHead}
 use Rattle.kit_lbts.specs.Progress.{head_in, message_in}
 use Rattle.kit_lbts.specs.Rule.{FederateRule, lbts_rule}
 use Rattle.kit_lbts.specs.Seats.{left_of, most_sends, waits_in}
-use Rattle.kit_lbts.specs.Ways.{Way, copies_on_way, marked, letters_posted_to, letters_received_from}
+use Rattle.kit_lbts.specs.Ways.{Way, copies_on_way, mark_in_mail, letters_posted_to, letters_received_from}
 use Rattle.kit_lbts.proofs.Bounds.{known_bounds_bound}
 use Rattle.kit_lbts.proofs.Copies.{contains_filter, contains_map, count_filter, count_filter_most, counted_there, get_or_any, numbered_once, same_letter, same_letter_is, same_letter_self}
 use Rattle.kit_lbts.proofs.Hands.{count_any, count_append, count_has, count_map, found_passes}
@@ -94,7 +94,7 @@ module _ (p : P) (i k head : ℕ) (li : i < p.own.federates) (lk : k < p.own.buf
   pub letter : IsLetter m i k (letter_in (get_or places i p).client k)
   letter = held_letter p m places w i k (get_or places i p) at lk alone.0 there_i
 
-  pub way : Way (get_or places i p).own.buffers (marked m i p.own.number) i p.own.number (get_or places i p).client p.client
+  pub way : Way (get_or places i p).own.buffers (mark_in_mail m i p.own.number) i p.own.number (get_or places i p).client p.client
   way = w.client.ways i me (get_or places i p) p at w.here
 
   pub within : k < (get_or places i p).own.buffers
@@ -122,10 +122,10 @@ module _ (p : P) (i k head : ℕ) (li : i < p.own.federates) (lk : k < p.own.buf
   -- ---- it was posted more often than it was received
   pub more : (t : Filled → Bool) → t (letter_in (get_or places i p).client k) ≡ true → count_by t (letters_received_from i p.client) < count_by t (letters_posted_to p.own.number (get_or places i p).client)
   more t passes =
-      let copies : ℕ → ℕ = λ x. cond (t (letter_in r.client x)) (copies_on_way (marked m i me) i p.client.in_hand x) 0 in
+      let copies : ℕ → ℕ = λ x. cond (t (letter_in r.client x)) (copies_on_way (mark_in_mail m i me) i p.client.in_hand x) 0 in
       let c = way.copies t in
       let s : copies k ≤ _ = sum_has copies r.own.buffers k within in
-      let one : copies k ≡ marked m i me k + count_by (is_in_hand i k) p.client.in_hand = ap (λ (b : Bool). cond b (copies_on_way (marked m i me) i p.client.in_hand k) 0) passes in
+      let one : copies k ≡ mark_in_mail m i me k + count_by (is_in_hand i k) p.client.in_hand = ap (λ (b : Bool). cond b (copies_on_way (mark_in_mail m i me) i p.client.in_hand k) 0) passes in
       let h = alone.1 in
       omega arith
 
@@ -205,10 +205,10 @@ module _ (p : P) (i k head : ℕ) (li : i < p.own.federates) (lk : k < p.own.buf
       let o = posted_once f.message.number in
       omega arith
 
-  pub new_number : list_any (is_numbered i (letter_in (get_or places i p).client k).message.number) (received p.client) ≡ false
-  new_number = false_from_ne_true (list_any (is_numbered i f.message.number) (received p.client)) (λ e.
-      let c = count_any (is_numbered i f.message.number) (received p.client) e in
-      let a : count_by (is_numbered i f.message.number) (received p.client) ≡ count_by (λ (x : Filled). x.message.sender == i && x.message.number == f.message.number) (receipts p.client) =
+  pub new_number : list_any (is_numbered i (letter_in (get_or places i p).client k).message.number) (messages_received p.client) ≡ false
+  new_number = false_from_ne_true (list_any (is_numbered i f.message.number) (messages_received p.client)) (λ e.
+      let c = count_any (is_numbered i f.message.number) (messages_received p.client) e in
+      let a : count_by (is_numbered i f.message.number) (messages_received p.client) ≡ count_by (λ (x : Filled). x.message.sender == i && x.message.number == f.message.number) (receipts p.client) =
       count_map (λ (x : Filled). x.message) (is_numbered i f.message.number) (λ (x : Filled). x.message.sender == i && x.message.number == f.message.number) (receipts p.client) (λ x. refl) in
       let b : count_by (λ (x : Filled). x.message.number == f.message.number) (letters_received_from i p.client) ≡ count_by (λ (x : Filled). x.message.sender == i && x.message.number == f.message.number) (receipts p.client) =
       count_filter (λ (x : Filled). x.message.number == f.message.number) (λ (x : Filled). x.message.sender == i) (receipts p.client) in

@@ -29,7 +29,7 @@ use Rattle.kit_lbts.specs.declared.view.Filled.{Filled}
 use Rattle.kit_lbts.specs.declared.view.Orphan.{Orphan}
 use Rattle.kit_lbts.specs.declared.view.Spent.{Spent}
 use Rattle.kit_lbts.specs.declared.view.LbtsView.{LbtsView}
-use Rattle.kit_lbts.specs.Views.{delivered, has_receiver, is_orphan, is_spent, receipts, received, time_of}
+use Rattle.kit_lbts.specs.Views.{messages_delivered, has_receiver, is_orphan, is_spent, receipts, messages_received, time_of}
 use Rattle.kit_lbts.specs.Promises.{bound_of}
 use Rattle.kit_lbts.specs.Letters.{letter_in}
 use Rattle.kit_lbts.specs.MessageLaws.{BodiesKeep, BodiesTell, HasHead, IsTold}
@@ -84,16 +84,16 @@ module _ (p : P) (i k head : ℕ) (li : i < p.own.federates) (lk : k < p.own.buf
   alone_spent : count_by (is_spent i k) p.client.spent ≡ 0
   alone_spent = (arriving.alone p i k head li lk has_head m places w).3
 
-  new : list_any (is_numbered i message.number) (received p.client) ≡ false
+  new : list_any (is_numbered i message.number) (messages_received p.client) ≡ false
   new = arriving.new_number p i k head li lk has_head m places w
 
   -- ---- what is in the queue is pending
-  queue_any : (t : Message → Bool) → list_any t (messages_of p.client.queue) ≡ list_any t (pending_messages f me (delivered p.client) (received p.client))
-  queue_any t = ap (list_any t) rule.queue.is ∙ any_ordered t (pending_messages f me (delivered p.client) (received p.client))
+  queue_any : (t : Message → Bool) → list_any t (messages_of p.client.queue) ≡ list_any t (pending_messages f me (messages_delivered p.client) (messages_received p.client))
+  queue_any t = ap (list_any t) rule.queue.is ∙ any_ordered t (pending_messages f me (messages_delivered p.client) (messages_received p.client))
 
   pub entry_clear : entry_of i message.number p.client.queue ≡ None
   entry_clear = none_is (entry_of i message.number p.client.queue) (entry_any i message.number p.client.queue
-      ∙ (queue_any (is_numbered i message.number) ∙ none_sieved (is_numbered i message.number) (is_pending f me (delivered p.client) (received p.client)) (received p.client) new))
+      ∙ (queue_any (is_numbered i message.number) ∙ none_sieved (is_numbered i message.number) (is_pending f me (messages_delivered p.client) (messages_received p.client)) (messages_received p.client) new))
 
   entry_new : entry_of message.sender message.number p.client.queue ≡ None
   entry_new = (λ t. entry_of (from t) message.number p.client.queue) ∙ entry_clear
@@ -119,38 +119,38 @@ module _ (p : P) (i k head : ℕ) (li : i < p.own.federates) (lk : k < p.own.buf
         let u = pair_is message.sender a message.number n t.1 in
         (sym u.0 ∙ from, sym u.1)
 
-    none_delivered : list_any (is_same message) (delivered p.client) ≡ false
-    none_delivered = none_there (is_same message) (delivered p.client) (λ x has. false_from_ne_true (is_same message x) (λ e.
+    none_delivered : list_any (is_same message) (messages_delivered p.client) ≡ false
+    none_delivered = none_there (is_same message) (messages_delivered p.client) (λ x has. false_from_ne_true (is_same message x) (λ e.
         let t = and_parts (x.time == message.time && x.sender == message.sender) (x.number == message.number) e in
         let u = and_parts (x.time == message.time) (x.sender == message.sender) t.0 in
         let numbered : is_numbered i message.number x ≡ true = and_from (x.sender == i) (x.number == message.number) (eq-eqb x.sender i (eqb-true x.sender message.sender u.1 ∙ from)) t.1 in
-        true≢false (sym numbered ∙ none_at (is_numbered i message.number) (received p.client) x new (All-contains (Contains (received p.client)) (delivered p.client) x rule.heard.came has))))
+        true≢false (sym numbered ∙ none_at (is_numbered i message.number) (messages_received p.client) x new (All-contains (Contains (messages_received p.client)) (messages_delivered p.client) x rule.heard.came has))))
 
     -- whether it is pending: where no Retraction of it came
-    pending_by : (b : Bool) → list_any (retracts message) (received p.client) ≡ b → is_pending f me (delivered p.client) (received p.client) message ≡ not b
+    pending_by : (b : Bool) → list_any (retracts message) (messages_received p.client) ≡ b → is_pending f me (messages_delivered p.client) (messages_received p.client) message ≡ not b
     pending_by b e =
-        ap (λ (c : Bool). is_event message.kind && is_transported f message && has_receiver f me message && not (list_any (is_same message) (delivered p.client)) && not c) e
-        ∙ front (is_event message.kind) (is_transported f message) (has_receiver f me message) (not (list_any (is_same message) (delivered p.client))) (not b) event
+        ap (λ (c : Bool). is_event message.kind && is_transported f message && has_receiver f me message && not (list_any (is_same message) (messages_delivered p.client)) && not c) e
+        ∙ front (is_event message.kind) (is_transported f message) (has_receiver f me message) (not (list_any (is_same message) (messages_delivered p.client))) (not b) event
         (arriving.transported p i k head li lk has_head m places w) (arriving.for_me p i k head li lk has_head m places w) (ap not none_delivered)
       where
         front : (a b c d e : Bool) → a ≡ true → b ≡ true → c ≡ true → d ≡ true → (a && b && c && d && e) ≡ e
         front a b c d e ea eb ec ed = (λ t. ea t && eb t && ec t && ed t && e)
 
-    named_is : list_any (retracts message) (received p.client) ≡ list_any (names i message.number) (received p.client)
-    named_is = ap (λ (s : ℕ). list_any (names s message.number) (received p.client)) from
+    named_is : list_any (retracts message) (messages_received p.client) ≡ list_any (names i message.number) (messages_received p.client)
+    named_is = ap (λ (s : ℕ). list_any (names s message.number) (messages_received p.client)) from
 
-    orphan_rule : list_any (is_orphan i message.number) p.client.orphans ≡ (list_any (names i message.number) (received p.client) && not (list_any (is_event_of i message.number) (received p.client)))
+    orphan_rule : list_any (is_orphan i message.number) p.client.orphans ≡ (list_any (names i message.number) (messages_received p.client) && not (list_any (is_event_of i message.number) (messages_received p.client)))
     orphan_rule = rule.heard.orphans i message.number
 
-    not_come : list_any (is_event_of i message.number) (received p.client) ≡ false
-    not_come = none_weaker (is_numbered i message.number) (is_event_of i message.number) (received p.client) (λ x e. and_right (is_event x.kind) (is_numbered i message.number x) e) new
+    not_come : list_any (is_event_of i message.number) (messages_received p.client) ≡ false
+    not_come = none_weaker (is_numbered i message.number) (is_event_of i message.number) (messages_received p.client) (λ x e. and_right (is_event x.kind) (is_numbered i message.number x) e) new
 
     -- no Retraction of it came: it waits
     waits : list_any (is_orphan i message.number) p.client.orphans ≡ false → Becomes (put_entry (record { message = message; buffer = Some k }) p.client.queue) p.client.spent p.client.orphans
     waits clear =
         let e : Entry = record { message = message; buffer = Some k } in
-        let unnamed : list_any (names i message.number) (received p.client) ≡ false = and_not_false _ _ not_come (sym orphan_rule ∙ clear) in
-        let pends : is_pending f me (delivered p.client) (received p.client) message ≡ true = pending_by false (named_is ∙ unnamed) in
+        let unnamed : list_any (names i message.number) (messages_received p.client) ≡ false = and_not_false _ _ not_come (sym orphan_rule ∙ clear) in
+        let pends : is_pending f me (messages_delivered p.client) (messages_received p.client) message ≡ true = pending_by false (named_is ∙ unnamed) in
         record {
           is = ap (λ (c : Kind). taken_in c i k message start) kind
               ∙ ap (λ (b : Bool). cond b (record start { orphans = filter (λ o. not (is_orphan i message.number o)) start.orphans; spent = start.spent ++ spent i k ∷ [] }) (record start { queue = put_entry e start.queue })) clear;
@@ -162,27 +162,27 @@ module _ (p : P) (i k head : ℕ) (li : i < p.own.federates) (lk : k < p.own.buf
           apart = apart_put e p.client.queue entry_new rule.queue.apart;
           pend = messages_put e p.client.queue
               ∙ (ap (put message) rule.queue.is
-              ∙ (sym (in_order_push (pending_messages f me (delivered p.client) (received p.client)) message)
-              ∙ ap in_order (sym (pending_event f me (delivered p.client) (received p.client) message event ∙ ap (λ (b : Bool). pending_messages f me (delivered p.client) (received p.client) ++ cond b (message ∷ []) []) pends))));
+              ∙ (sym (in_order_push (pending_messages f me (messages_delivered p.client) (messages_received p.client)) message)
+              ∙ ap in_order (sym (pending_event f me (messages_delivered p.client) (messages_received p.client) message event ∙ ap (λ (b : Bool). pending_messages f me (messages_delivered p.client) (messages_received p.client) ++ cond b (message ∷ []) []) pends))));
           ahead = all_put_entry (λ (e : Entry). time_of p.client < e.message.time) e p.client.queue late rule.queue.ahead;
           settled = all_put_entry (λ (e : Entry). e.buffer ≡ None → e.message.time < bound_of p.client) e p.client.queue (λ x. absurd (cc)) rule.queue.settled;
           lies = λ a v same h. all_put_entry (Lie a v) e p.client.queue (λ x. same (sym x ∙ from)) h;
           orphans = λ a n. ⊎_elim
               (λ (it : is_event_of a n message ≡ true).
               let t = is_it a n it in
-              (λ x. list_any (is_orphan (t.0 x) (t.1 x)) p.client.orphans) ∙ (clear ∙ sym (orphaned_more a n (received p.client) message
-              ∙ orphan_none (list_any (names a n) (received p.client)) (list_any (is_event_of a n) (received p.client)) (names a n message) (is_event_of a n message) it)))
+              (λ x. list_any (is_orphan (t.0 x) (t.1 x)) p.client.orphans) ∙ (clear ∙ sym (orphaned_more a n (messages_received p.client) message
+              ∙ orphan_none (list_any (names a n) (messages_received p.client)) (list_any (is_event_of a n) (messages_received p.client)) (names a n message) (is_event_of a n message) it)))
               (λ (it : is_event_of a n message ≡ false).
-              rule.heard.orphans a n ∙ sym (orphaned_more a n (received p.client) message
-              ∙ orphans_stay (list_any (names a n) (received p.client)) (list_any (is_event_of a n) (received p.client)) (names a n message) (is_event_of a n message) (no_name a n) it))
+              rule.heard.orphans a n ∙ sym (orphaned_more a n (messages_received p.client) message
+              ∙ orphans_stay (list_any (names a n) (messages_received p.client)) (list_any (is_event_of a n) (messages_received p.client)) (names a n message) (is_event_of a n message) (no_name a n) it))
               (cases_Bool (is_event_of a n message));
         }
 
     -- its Retraction came: it is forgotten
     forgotten : list_any (is_orphan i message.number) p.client.orphans ≡ true → Becomes p.client.queue (p.client.spent ++ spent i k ∷ []) (filter (λ o. not (is_orphan i message.number o)) p.client.orphans)
     forgotten known =
-        let named : list_any (names i message.number) (received p.client) ≡ true = (and_parts _ _ (sym orphan_rule ∙ known)).0 in
-        let gone : is_pending f me (delivered p.client) (received p.client) message ≡ false = pending_by true (named_is ∙ named) in
+        let named : list_any (names i message.number) (messages_received p.client) ≡ true = (and_parts _ _ (sym orphan_rule ∙ known)).0 in
+        let gone : is_pending f me (messages_delivered p.client) (messages_received p.client) message ≡ false = pending_by true (named_is ∙ named) in
         record {
           is = ap (λ (c : Kind). taken_in c i k message start) kind
               ∙ ap (λ (b : Bool). cond b (record start { orphans = filter (λ o. not (is_orphan i message.number o)) start.orphans; spent = start.spent ++ spent i k ∷ [] }) (record start { queue = put_entry (record { message = message; buffer = Some k }) start.queue })) known;
@@ -192,24 +192,24 @@ module _ (p : P) (i k head : ℕ) (li : i < p.own.federates) (lk : k < p.own.buf
           spent = All-push (λ (s : Spent). (s.from < p.own.federates) × (s.buffer < p.own.buffers)) p.client.spent (spent i k) rule.holdings.spent (li, lk);
           ordered = rule.queue.ordered;
           apart = rule.queue.apart;
-          pend = rule.queue.is ∙ ap in_order (sym (pending_event f me (delivered p.client) (received p.client) message event
-              ∙ (ap (λ (b : Bool). pending_messages f me (delivered p.client) (received p.client) ++ cond b (message ∷ []) []) gone ∙ append-nil (pending_messages f me (delivered p.client) (received p.client)))));
+          pend = rule.queue.is ∙ ap in_order (sym (pending_event f me (messages_delivered p.client) (messages_received p.client) message event
+              ∙ (ap (λ (b : Bool). pending_messages f me (messages_delivered p.client) (messages_received p.client) ++ cond b (message ∷ []) []) gone ∙ append-nil (pending_messages f me (messages_delivered p.client) (messages_received p.client)))));
           ahead = rule.queue.ahead;
           settled = rule.queue.settled;
           lies = λ a v same h. h;
           orphans = λ a n. ⊎_elim
               (λ (it : is_event_of a n message ≡ true).
               let t = is_it a n it in
-              (λ x. list_any (is_orphan (t.0 x) (t.1 x)) (filter (λ o. not (is_orphan i message.number o)) p.client.orphans)) ∙ (any_gone (is_orphan i message.number) p.client.orphans ∙ sym (orphaned_more a n (received p.client) message
-              ∙ orphan_none (list_any (names a n) (received p.client)) (list_any (is_event_of a n) (received p.client)) (names a n message) (is_event_of a n message) it)))
+              (λ x. list_any (is_orphan (t.0 x) (t.1 x)) (filter (λ o. not (is_orphan i message.number o)) p.client.orphans)) ∙ (any_gone (is_orphan i message.number) p.client.orphans ∙ sym (orphaned_more a n (messages_received p.client) message
+              ∙ orphan_none (list_any (names a n) (messages_received p.client)) (list_any (is_event_of a n) (messages_received p.client)) (names a n message) (is_event_of a n message) it)))
               (λ (it : is_event_of a n message ≡ false).
               any_without (is_orphan i message.number) (is_orphan a n) p.client.orphans (λ o e. false_from_ne_true (is_orphan a n o) (λ g.
               let s = pair_is o.from i o.number message.number e in
               let t = pair_is o.from a o.number n g in
               let both : is_event_of a n message ≡ true = and_from (is_event message.kind) (is_numbered a n message) event (and_from (message.sender == a) (message.number == n) (eq-eqb message.sender a (from ∙ (sym s.0 ∙ t.0))) (eq-eqb message.number n (sym s.1 ∙ t.1))) in
               true≢false (sym both ∙ it)))
-              ∙ (rule.heard.orphans a n ∙ sym (orphaned_more a n (received p.client) message
-              ∙ orphans_stay (list_any (names a n) (received p.client)) (list_any (is_event_of a n) (received p.client)) (names a n message) (is_event_of a n message) (no_name a n) it)))
+              ∙ (rule.heard.orphans a n ∙ sym (orphaned_more a n (messages_received p.client) message
+              ∙ orphans_stay (list_any (names a n) (messages_received p.client)) (list_any (is_event_of a n) (messages_received p.client)) (names a n message) (is_event_of a n message) (no_name a n) it)))
               (cases_Bool (is_event_of a n message));
         }
 
@@ -238,7 +238,7 @@ module _ (p : P) (i k head : ℕ) (li : i < p.own.federates) (lk : k < p.own.buf
     sent_rule = w.client.each i (get_or places i p) (arriving.at p i k head li lk has_head m places w)
 
     -- what was received of i it sent, to the reader among others
-    came_from : (x : Message) → Contains (received p.client) x → x.sender ≡ i → (has_receiver f me x ≡ true) × (is_transported f x ≡ true) × Contains sends x
+    came_from : (x : Message) → Contains (messages_received p.client) x → x.sender ≡ i → (has_receiver f me x ≡ true) × (is_transported f x ≡ true) × Contains sends x
     came_from x has of =
         let t = map_contains (λ (g : Filled). g.message) (receipts p.client) x has in
         let mail : Contains (letters_received_from i p.client) t.0 = filter_contains (λ (g : Filled). g.message.sender == i) (receipts p.client) t.0 (eq-eqb t.0.message.sender i (ap (λ (y : Message). y.sender) t.2 ∙ of)) t.1 in
@@ -248,7 +248,7 @@ module _ (p : P) (i k head : ℕ) (li : i < p.own.federates) (lk : k < p.own.buf
     own_sent : Contains sends message
     own_sent = arriving.in_sends p i k head li lk has_head m places w
 
-    target_waits : (e : Message) → Contains (received p.client) e → is_event_of i value e ≡ true → is_pending f me (delivered p.client) (received p.client) e ≡ true
+    target_waits : (e : Message) → Contains (messages_received p.client) e → is_event_of i value e ≡ true → is_pending f me (messages_delivered p.client) (messages_received p.client) e ≡ true
     target_waits e has it =
         let t = and_parts (is_event e.kind) (is_numbered i value e) it in
         let u = pair_is e.sender i e.number value t.1 in
@@ -257,14 +257,14 @@ module _ (p : P) (i k head : ℕ) (li : i < p.own.federates) (lk : k < p.own.buf
         let target = All-contains (λ (r : Message). is_event r.kind ≡ false → (x : Message) × Contains sends x × (is_event x.kind ≡ true) × (x.number ≡ r.value) × (x.time ≡ r.time) × (x.group ≡ r.group)) sends message back.target own_sent no_event in
         let same : e ≡ target.0 = one_number 1 sends no_message (λ x lx. sent_rule.sends.numbered x lx ∙ (let z : x + 1 ≡ 1 + x = omega arith in z)) e target.0 s.2 target.1 (u.1 ∙ sym target.3) in
         let time : e.time ≡ message.time = ap (λ (y : Message). y.time) same ∙ target.4 in
-        let undelivered : list_any (is_same e) (delivered p.client) ≡ false = none_there (is_same e) (delivered p.client) (λ x hx. false_from_ne_true (is_same e x) (λ g.
+        let undelivered : list_any (is_same e) (messages_delivered p.client) ≡ false = none_there (is_same e) (messages_delivered p.client) (λ x hx. false_from_ne_true (is_same e x) (λ g.
         let a = and_parts (x.time == e.time && x.sender == e.sender) (x.number == e.number) g in
         let b = and_parts (x.time == e.time) (x.sender == e.sender) a.0 in
         let at : x.time ≡ e.time = eqb-true x.time e.time b.0 in
-        let past = All-contains (λ (y : Message). y.time ≤ time_of p.client) (delivered p.client) x rule.heard.past hx in
+        let past = All-contains (λ (y : Message). y.time ≤ time_of p.client) (messages_delivered p.client) x rule.heard.past hx in
         let l = late in
         omega arith)) in
-        let unnamed : list_any (retracts e) (received p.client) ≡ false = none_there (retracts e) (received p.client) (λ x hx. false_from_ne_true (retracts e x) (λ g.
+        let unnamed : list_any (retracts e) (messages_received p.client) ≡ false = none_there (retracts e) (messages_received p.client) (λ x hx. false_from_ne_true (retracts e x) (λ g.
         let a = and_parts (not (is_event x.kind) && x.sender == e.sender) (x.value == e.number) g in
         let b = and_parts (not (is_event x.kind)) (x.sender == e.sender) a.0 in
         let of : x.sender ≡ i = eqb-true x.sender e.sender b.1 ∙ u.0 in
@@ -273,21 +273,21 @@ module _ (p : P) (i k head : ℕ) (li : i < p.own.federates) (lk : k < p.own.buf
         (All-contains (λ (r : Message). All (λ (s : Message). is_event r.kind ≡ false → is_event s.kind ≡ false → r.value ≡ s.value → r.number ≡ s.number) sends) sends message back.once own_sent) (came_from x hx of).2 in
         let number : message.number ≡ x.number = once no_event (not-true (is_event x.kind) b.0) named in
         let numbered : is_numbered i message.number x ≡ true = and_from (x.sender == i) (x.number == message.number) (eq-eqb x.sender i of) (eq-eqb x.number message.number (sym number)) in
-        true≢false (sym numbered ∙ none_at (is_numbered i message.number) (received p.client) x new hx))) in
+        true≢false (sym numbered ∙ none_at (is_numbered i message.number) (messages_received p.client) x new hx))) in
         (λ x. t.0 x && s.1 x && s.0 x && not (undelivered x) && not (unnamed x))
 
-    target_gone : is_some (entry_of i value p.client.queue) ≡ false → list_any (is_event_of i value) (received p.client) ≡ false
-    target_gone none = false_from_ne_true (list_any (is_event_of i value) (received p.client)) (λ any.
-        let t = any_there (is_event_of i value) (received p.client) any in
-        let pends = filter_contains (is_pending f me (delivered p.client) (received p.client)) (received p.client) t.0 (target_waits t.0 t.1 t.2) t.1 in
+    target_gone : is_some (entry_of i value p.client.queue) ≡ false → list_any (is_event_of i value) (messages_received p.client) ≡ false
+    target_gone none = false_from_ne_true (list_any (is_event_of i value) (messages_received p.client)) (λ any.
+        let t = any_there (is_event_of i value) (messages_received p.client) any in
+        let pends = filter_contains (is_pending f me (messages_delivered p.client) (messages_received p.client)) (messages_received p.client) t.0 (target_waits t.0 t.1 t.2) t.1 in
         let numbered = (and_parts (is_event t.0.kind) (is_numbered i value t.0) t.2).1 in
-        true≢false (sym (entry_any i value p.client.queue ∙ (queue_any (is_numbered i value) ∙ any_at (is_numbered i value) (pending_messages f me (delivered p.client) (received p.client)) t.0 pends numbered)) ∙ none))
+        true≢false (sym (entry_any i value p.client.queue ∙ (queue_any (is_numbered i value) ∙ any_at (is_numbered i value) (pending_messages f me (messages_delivered p.client) (messages_received p.client)) t.0 pends numbered)) ∙ none))
 
-    target_came : is_some (entry_of i value p.client.queue) ≡ true → list_any (is_event_of i value) (received p.client) ≡ true
+    target_came : is_some (entry_of i value p.client.queue) ≡ true → list_any (is_event_of i value) (messages_received p.client) ≡ true
     target_came there =
-        let t = any_there (is_numbered i value) (pending_messages f me (delivered p.client) (received p.client)) (sym (entry_any i value p.client.queue ∙ queue_any (is_numbered i value)) ∙ there) in
-        let u = contains_filter (is_pending f me (delivered p.client) (received p.client)) (received p.client) t.0 t.1 in
-        any_at (is_event_of i value) (received p.client) t.0 u.1 (and_from (is_event t.0.kind) (is_numbered i value t.0) (pendings.pending_event f me (delivered p.client) (received p.client) t.0 u.0) t.2)
+        let t = any_there (is_numbered i value) (pending_messages f me (messages_delivered p.client) (messages_received p.client)) (sym (entry_any i value p.client.queue ∙ queue_any (is_numbered i value)) ∙ there) in
+        let u = contains_filter (is_pending f me (messages_delivered p.client) (messages_received p.client)) (messages_received p.client) t.0 t.1 in
+        any_at (is_event_of i value) (messages_received p.client) t.0 u.1 (and_from (is_event t.0.kind) (is_numbered i value t.0) (pendings.pending_event f me (messages_delivered p.client) (messages_received p.client) t.0 u.0) t.2)
 
     abbrev left : List Spent
     left = p.client.spent ++ spent i k ∷ spent_entry i (entry_of i message.value p.client.queue)
@@ -312,28 +312,28 @@ module _ (p : P) (i k head : ℕ) (li : i < p.own.federates) (lk : k < p.own.buf
             in_buffer e.buffer (All-contains (λ (e : Entry). (e.message.sender < p.own.federates) × IfSome e.buffer (λ k. k < p.own.buffers)) p.client.queue e rule.holdings.queue t.1).1
 
     orphans_by : (b : Bool) → is_some (entry_of i value p.client.queue) ≡ b → (a n : ℕ)
-        → list_any (is_orphan a n) (cond b p.client.orphans (p.client.orphans ++ orphan i value ∷ [])) ≡ is_orphaned a n (received p.client ++ message ∷ [])
+        → list_any (is_orphan a n) (cond b p.client.orphans (p.client.orphans ++ orphan i value ∷ [])) ≡ is_orphaned a n (messages_received p.client ++ message ∷ [])
     orphans_by true is a n = ⊎_elim
         (λ (it : (i == a && value == n) ≡ true).
         let t = pair_is i a value n it in
-        let came : list_any (is_event_of a n) (received p.client) ≡ true = (λ x. list_any (is_event_of (sym t.0 x) (sym t.1 x)) (received p.client)) ∙ target_came is in
-        rule.heard.orphans a n ∙ (and_right (list_any (names a n) (received p.client)) (not (list_any (is_event_of a n) (received p.client))) (ap not came)
-        ∙ sym (orphaned_more a n (received p.client) message ∙ orphan_known (list_any (names a n) (received p.client)) (list_any (is_event_of a n) (received p.client)) (names a n message) (is_event_of a n message) came)))
+        let came : list_any (is_event_of a n) (messages_received p.client) ≡ true = (λ x. list_any (is_event_of (sym t.0 x) (sym t.1 x)) (messages_received p.client)) ∙ target_came is in
+        rule.heard.orphans a n ∙ (and_right (list_any (names a n) (messages_received p.client)) (not (list_any (is_event_of a n) (messages_received p.client))) (ap not came)
+        ∙ sym (orphaned_more a n (messages_received p.client) message ∙ orphan_known (list_any (names a n) (messages_received p.client)) (list_any (is_event_of a n) (messages_received p.client)) (names a n message) (is_event_of a n message) came)))
         (λ (it : (i == a && value == n) ≡ false).
-        rule.heard.orphans a n ∙ sym (orphaned_more a n (received p.client) message
-        ∙ orphans_stay (list_any (names a n) (received p.client)) (list_any (is_event_of a n) (received p.client)) (names a n message) (is_event_of a n message) (named_by a n ∙ it) (no_own a n)))
+        rule.heard.orphans a n ∙ sym (orphaned_more a n (messages_received p.client) message
+        ∙ orphans_stay (list_any (names a n) (messages_received p.client)) (list_any (is_event_of a n) (messages_received p.client)) (names a n message) (is_event_of a n message) (named_by a n ∙ it) (no_own a n)))
         (cases_Bool (i == a && value == n))
     orphans_by false is a n = list_any-append (is_orphan a n) p.client.orphans (orphan i value ∷ []) ∙ ⊎_elim
         (λ (it : (i == a && value == n) ≡ true).
         let t = pair_is i a value n it in
-        let away : list_any (is_event_of a n) (received p.client) ≡ false = (λ x. list_any (is_event_of (sym t.0 x) (sym t.1 x)) (received p.client)) ∙ target_gone is in
+        let away : list_any (is_event_of a n) (messages_received p.client) ≡ false = (λ x. list_any (is_event_of (sym t.0 x) (sym t.1 x)) (messages_received p.client)) ∙ target_gone is in
         or_right (list_any (is_orphan a n) p.client.orphans) ((i == a && value == n) || false) (ap (λ b. b || false) it)
-        ∙ sym (orphaned_more a n (received p.client) message
-        ∙ orphan_made (list_any (names a n) (received p.client)) (list_any (is_event_of a n) (received p.client)) (names a n message) (is_event_of a n message) (named_by a n ∙ it) away (no_own a n)))
+        ∙ sym (orphaned_more a n (messages_received p.client) message
+        ∙ orphan_made (list_any (names a n) (messages_received p.client)) (list_any (is_event_of a n) (messages_received p.client)) (names a n message) (is_event_of a n message) (named_by a n ∙ it) away (no_own a n)))
         (λ (it : (i == a && value == n) ≡ false).
         ap (λ b. list_any (is_orphan a n) p.client.orphans || (b || false)) it
-        ∙ (either (list_any (is_orphan a n) p.client.orphans) ∙ (rule.heard.orphans a n ∙ sym (orphaned_more a n (received p.client) message
-        ∙ orphans_stay (list_any (names a n) (received p.client)) (list_any (is_event_of a n) (received p.client)) (names a n message) (is_event_of a n message) (named_by a n ∙ it) (no_own a n)))))
+        ∙ (either (list_any (is_orphan a n) p.client.orphans) ∙ (rule.heard.orphans a n ∙ sym (orphaned_more a n (messages_received p.client) message
+        ∙ orphans_stay (list_any (names a n) (messages_received p.client)) (list_any (is_event_of a n) (messages_received p.client)) (names a n message) (is_event_of a n message) (named_by a n ∙ it) (no_own a n)))))
         (cases_Bool (i == a && value == n))
       where
         either : (b : Bool) → (b || false) ≡ b
@@ -363,9 +363,9 @@ module _ (p : P) (i k head : ℕ) (li : i < p.own.federates) (lk : k < p.own.buf
       apart = apart_without i value p.client.queue rule.queue.apart;
       pend = messages_sieved (λ x. not (is_numbered i value x)) p.client.queue
           ∙ (ap (filter (λ x. not (is_numbered i value x))) rule.queue.is
-          ∙ (sym (in_order_filter (λ x. not (is_numbered i value x)) (pending_messages f me (delivered p.client) (received p.client)))
-          ∙ ap in_order (filter_agree (λ x. not (is_numbered i value x)) (λ x. not (retracts x message)) retracts_is (pending_messages f me (delivered p.client) (received p.client))
-          ∙ sym (pending_retraction f me (delivered p.client) (received p.client) message no_event))));
+          ∙ (sym (in_order_filter (λ x. not (is_numbered i value x)) (pending_messages f me (messages_delivered p.client) (messages_received p.client)))
+          ∙ ap in_order (filter_agree (λ x. not (is_numbered i value x)) (λ x. not (retracts x message)) retracts_is (pending_messages f me (messages_delivered p.client) (messages_received p.client))
+          ∙ sym (pending_retraction f me (messages_delivered p.client) (messages_received p.client) message no_event))));
       ahead = All-filter (λ e. not (is_numbered i value e.message)) (λ (e : Entry). time_of p.client < e.message.time) p.client.queue rule.queue.ahead;
       settled = All-filter (λ e. not (is_numbered i value e.message)) (λ (e : Entry). e.buffer ≡ None → e.message.time < bound_of p.client) p.client.queue rule.queue.settled;
       lies = λ a v same h. All-filter (λ e. not (is_numbered i value e.message)) (Lie a v) p.client.queue h;

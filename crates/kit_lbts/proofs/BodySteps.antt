@@ -36,7 +36,7 @@ use Rattle.kit_lbts.specs.declared.view.Noted.{Noted}
 use Rattle.kit_lbts.specs.declared.view.Orphan.{Orphan}
 use Rattle.kit_lbts.specs.declared.view.Spent.{Spent}
 use Rattle.kit_lbts.specs.declared.view.LbtsView.{LbtsView}
-use Rattle.kit_lbts.specs.Views.{delivered, delivery_of, entries_of, is_in_hand, is_orphan, is_spent, receipt_of, receipts, received, time_of}
+use Rattle.kit_lbts.specs.Views.{messages_delivered, delivery_of, entries_of, is_in_hand, is_orphan, is_spent, receipt_of, receipts, messages_received, time_of}
 use Rattle.kit_lbts.specs.Promises.{added_of, bound_of, ledgers_of, stamp_of}
 use Rattle.kit_lbts.specs.Letters.{Letters, letter_in}
 use Rattle.kit_lbts.specs.LedgerLaws.{stamp_read}
@@ -44,7 +44,7 @@ use Rattle.kit_lbts.specs.MessageLaws.{HasHead}
 use Rattle.kit_lbts.specs.Progress.{head_in, message_in, view_after, taken_in}
 use Rattle.kit_lbts.specs.Rule.{RoundsHold, FederateRule, lbts_rule}
 use Rattle.kit_lbts.specs.Seats.{Granting, Receiving, Holdings, Queue, Sends, is_orphaned, waits_in}
-use Rattle.kit_lbts.specs.Ways.{Way, WayBetween, marked}
+use Rattle.kit_lbts.specs.Ways.{Way, WayBetween, mark_in_mail}
 use Rattle.kit_lbts.proofs.Arriving as arriving
 use Rattle.kit_lbts.proofs.Changes.{Was, kept, mine, said, still, ways_to}
 use Rattle.kit_lbts.proofs.Hands.{count_gone, count_without, hand_else}
@@ -107,11 +107,11 @@ module _ (p : P) (i k head : ℕ) (li : i < p.own.federates) (lk : k < p.own.buf
     pub spent : All (λ (s : Spent). (s.from < p.own.federates) × (s.buffer < p.own.buffers)) ss
     pub ordered : IsInOrder qs
     pub apart : AreNumberedApart qs
-    pub pend : messages_of qs ≡ in_order (pending_messages p.client.federation p.own.number (delivered p.client) (received p.client ++ message ∷ []))
+    pub pend : messages_of qs ≡ in_order (pending_messages p.client.federation p.own.number (messages_delivered p.client) (messages_received p.client ++ message ∷ []))
     pub ahead : All (λ (e : Entry). time_of p.client < e.message.time) qs
     pub settled : All (λ (e : Entry). e.buffer ≡ None → e.message.time < bound_of p.client) qs
     pub lies : (a : ℕ) (v : LbtsView) → (a ≡ i → (letter_in v k).message ≡ message) → All (Lie a v) p.client.queue → All (Lie a v) qs
-    pub orphans : (a n : ℕ) → list_any (is_orphan a n) os ≡ is_orphaned a n (received p.client ++ message ∷ [])
+    pub orphans : (a n : ℕ) → list_any (is_orphan a n) os ≡ is_orphaned a n (messages_received p.client ++ message ∷ [])
 
   words : (a c x : ℕ) → now (Part a c x) ≡ m (Part a c x)
   words a c x = ap (λ (y : Memory). y (Part a c x)) (stored_same m (Part i k 1))
@@ -145,11 +145,11 @@ module _ (p : P) (i k head : ℕ) (li : i < p.own.federates) (lk : k < p.own.buf
     receipts_are_more : receipts then ≡ receipts p.client ++ f ∷ []
     receipts_are_more = filter_map-append (λ (e : Noted). receipt_of e.entry e.colour) p.client.journal (noted ∷ [])
 
-    received_is : received then ≡ received p.client ++ message ∷ []
+    received_is : messages_received then ≡ messages_received p.client ++ message ∷ []
     received_is = ap (map (λ (x : Filled). x.message)) receipts_are_more ∙ map-append (λ (x : Filled). x.message) (receipts p.client) (f ∷ [])
 
-    delivered_is : delivered then ≡ delivered p.client
-    delivered_is = ap (filter_map delivery_of) entries_is ∙ (filter_map-append delivery_of (entries_of p.client) (Received message ∷ []) ∙ append-nil (delivered p.client))
+    delivered_is : messages_delivered then ≡ messages_delivered p.client
+    delivered_is = ap (filter_map delivery_of) entries_is ∙ (filter_map-append delivery_of (entries_of p.client) (Received message ∷ []) ∙ append-nil (messages_delivered p.client))
 
     last_is : last_grant (entries_of then) ≡ last_grant (entries_of p.client)
     last_is = ap last_grant entries_is ∙ last_grant-push (entries_of p.client) (Received message)
@@ -206,7 +206,7 @@ module _ (p : P) (i k head : ℕ) (li : i < p.own.federates) (lk : k < p.own.buf
     heard = record {
       orphans = λ a n. taken.orphans a n ∙ ap (is_orphaned a n) (sym received_is);
       came = subst (λ (x : List Message × List Message). All (Contains x.0) x.1) (λ t. (sym received_is t, sym delivered_is t))
-          (All-weaker (Contains (received p.client)) (Contains (received p.client ++ message ∷ [])) (λ x has. Contains-append_left (received p.client) (message ∷ []) x has) (delivered p.client) rule.heard.came);
+          (All-weaker (Contains (messages_received p.client)) (Contains (messages_received p.client ++ message ∷ [])) (λ x has. Contains-append_left (messages_received p.client) (message ∷ []) x has) (messages_delivered p.client) rule.heard.came);
       past = subst (λ (x : ℕ × List Message). All (λ (y : Message). y.time ≤ x.0) x.1) (λ t. (sym time_is t, sym delivered_is t)) rule.heard.past;
     }
 
@@ -249,26 +249,26 @@ module _ (p : P) (i k head : ℕ) (li : i < p.own.federates) (lk : k < p.own.buf
         let e : some (get_or places i p) ≡ some x = sym (arriving.at p i k head li lk has_head m places w) ∙ subst (λ (y : ℕ). get_elem? places y ≡ some x) same at in
         ap (λ (y : P). letter_in y.client k) (sym (some-injective (get_or places i p) x e))
 
-    way_before : (a : ℕ) (x : P) → get_elem? places a ≡ some x → Way x.own.buffers (marked m a me) a me x.client then
+    way_before : (a : ℕ) (x : P) → get_elem? places a ≡ some x → Way x.own.buffers (mark_in_mail m a me) a me x.client then
     way_before a x at =
         let lies = taken.lies a x.client (λ same. ap (λ (y : Filled). y.message) (one_place a x same at)) (w.client.ways a me x p at w.here).lies in
         let from = (arriving.letter p i k head li lk has_head m places w).sender in
         dite (ℕ_discrete a i)
         (λ same.
         let letter = one_place a x same at in
-        way_received x.own.buffers (marked m a me) a me x.client p.client then k (subst (λ (n : ℕ). k < n) (sym (w.floor.each a x at).buffers) lk)
+        way_received x.own.buffers (mark_in_mail m a me) a me x.client p.client then k (subst (λ (n : ℕ). k < n) (sym (w.floor.each a x at).buffers) lk)
         (receipts_are_more ∙ ap (λ (y : Filled). receipts p.client ++ y ∷ []) (sym letter)) (ap (λ (y : Filled). y.message.sender) letter ∙ (from ∙ sym same))
         (λ t. filter (λ h. not (is_in_hand (sym same t) k h)) p.client.in_hand)
         (ap (λ (y : ℕ). count_by (is_in_hand y k) p.client.in_hand) same ∙ (arriving.alone p i k head li lk has_head m places w).1)
         lies (w.client.ways a me x p at w.here))
-        (λ other. way_received_else x.own.buffers (marked m a me) a me x.client p.client then i k f other receipts_are_more from refl lies (w.client.ways a me x p at w.here))
+        (λ other. way_received_else x.own.buffers (mark_in_mail m a me) a me x.client p.client then i k f other receipts_are_more from refl lies (w.client.ways a me x p at w.here))
 
     way_me : (a : ℕ) (r : P) → Was places me p q a r → WayBetween now a me r q
     way_me a r ta =
         let b = still (λ (x : P). x.own.buffers) places me p q refl a r ta in
         let s : sent me r.client ≡ sent me ta.before.client = still (λ (x : P). sent me x.client) places me p q (ap (sent me) is) a r ta in
-        subst (λ (n : ℕ). Way n (marked now a me) a me r.client q.client) (sym b)
-        (way_still ta.before.own.buffers (marked m a me) (marked now a me) a me ta.before.client then r.client q.client (λ x lx. refl) s (ap got is) (way_before a ta.before ta.at))
+        subst (λ (n : ℕ). Way n (mark_in_mail now a me) a me r.client q.client) (sym b)
+        (way_still ta.before.own.buffers (mark_in_mail m a me) (mark_in_mail now a me) a me ta.before.client then r.client q.client (λ x lx. refl) s (ap got is) (way_before a ta.before ta.at))
 
     rounds : RoundsHold (slice_set places me q)
     rounds =
@@ -288,8 +288,8 @@ module _ (p : P) (i k head : ℕ) (li : i < p.own.federates) (lk : k < p.own.buf
       sends = subst (λ (v : LbtsView). Sends me (with v)) (sym is) sends;
       ways = ways_to places me p q (WayBetween now) way_me (λ a l r s other at ta.
           let b = still (λ (x : P). x.own.buffers) places me p q refl a r ta in
-          subst (λ (n : ℕ). Way n (marked now a l) a l r.client s.client) (sym b)
-          (way_still ta.before.own.buffers (marked m a l) (marked now a l) a l ta.before.client s.client r.client s.client (λ x lx. refl)
+          subst (λ (n : ℕ). Way n (mark_in_mail now a l) a l r.client s.client) (sym b)
+          (way_still ta.before.own.buffers (mark_in_mail m a l) (mark_in_mail now a l) a l ta.before.client s.client r.client s.client (λ x lx. refl)
           (still (λ (x : P). sent l x.client) places me p q (ap (sent l) is) a r ta) refl (w.client.ways a l ta.before s ta.at at)));
       rounds = rounds;
     })

@@ -24,7 +24,8 @@ use Rattle.kit_lbts.specs.declared.view.Scheme.{Scheme}
 use Rattle.kit_lbts.specs.declared.view.LbtsView.{LbtsView}
 use Rattle.kit_lbts.specs.Views.{time_of}
 use Rattle.kit_lbts.specs.Promises.{ledgers_of, unknown}
-use Rattle.kit_lbts.specs.Reduction.{Source, value_at, publishes, reg_of, sources, source, clock_of}
+use Rattle.kit_lbts.specs.Reduction.{Source, value_at, publishes, reg_of, sources, source}
+use Rattle.kit_ground.specs.Layout.{clock_of}
 use Rattle.kit_lbts.specs.Registers.{IsKnown, ShowsRound, Registers, Learnt, shares_at, word_at}
 use Rattle.kit_lbts.specs.Letters.{Letters}
 use Rattle.kit_lbts.specs.Ways.{WayBetween}

@@ -28,7 +28,7 @@ use Rattle.kit_lbts.specs.declared.view.LbtsView.{LbtsView}
 use Rattle.kit_lbts.specs.Views.{has_receiver, is_in_hand, is_spent}
 use Rattle.kit_lbts.specs.Letters.{IsLetter, IsSending, Letters, letter_in, letter_of}
 use Rattle.kit_lbts.specs.Seats.{AreChargedOnce, Sends, left_of, waits_in}
-use Rattle.kit_lbts.specs.Ways.{Way, WayBetween, copies_on_way, marked, letters_posted_to}
+use Rattle.kit_lbts.specs.Ways.{Way, WayBetween, copies_on_way, mark_in_mail, letters_posted_to}
 use Rattle.kit_lbts.specs.Progress.{first_letter, view_after}
 use Rattle.kit_lbts.specs.Rule.{lbts_rule}
 use Rattle.kit_lbts.specs.MessageLaws.{ChargesKeep, MayCharge}
@@ -158,12 +158,12 @@ module _ (p : P) (k mask : ℕ) (first : Message) (rest : List Message) (may : M
     none : (count_by (is_in_hand me k) s.client.in_hand ≡ 0) × (count_by (waits_in me k) s.client.queue ≡ 0) × (count_by (is_spent me k) s.client.spent ≡ 0)
     none = not_held p m places w j s at me k there_me may.within (free_off p m places w j s at me k p w.here may.within may.chargeable.0).1
 
-    off : copies_on_way (marked m me j) me s.client.in_hand k ≡ 0
+    off : copies_on_way (mark_in_mail m me j) me s.client.in_hand k ≡ 0
     off = let a = (free_off p m places w j s at me k p w.here may.within may.chargeable.0).0 in let b = none.0 in omega arith
 
-    way_before : Way p.own.buffers (marked m me j) me j q.client s.client
-    way_before = way_relettered p.own.buffers (marked m me j) me j p.client s.client q.client refl
-        (λ x lx. dite (ℕ_discrete x k) (λ same. inr (ap (copies_on_way (marked m me j) me s.client.in_hand) same ∙ off)) (λ other. inl (letter_there x other)))
+    way_before : Way p.own.buffers (mark_in_mail m me j) me j q.client s.client
+    way_before = way_relettered p.own.buffers (mark_in_mail m me j) me j p.client s.client q.client refl
+        (λ x lx. dite (ℕ_discrete x k) (λ same. inr (ap (copies_on_way (mark_in_mail m me j) me s.client.in_hand) same ∙ off)) (λ other. inl (letter_there x other)))
         (λ x d lx from.
         let h : InHand = get_or s.client.in_hand x d in
         letter_there h.buffer (λ same. let c = count_has (is_in_hand me k) s.client.in_hand h (Contains-get_or s.client.in_hand x d lx) (hand_here me k h from same) in let z = none.0 in absurd (omega arith)))
@@ -173,7 +173,7 @@ module _ (p : P) (k mask : ℕ) (first : Message) (rest : List Message) (may : M
         (w.client.ways me j p s w.here at)
 
   way_me : (j : ℕ) (s : P) → Was places me p q j s → WayBetween now me j q s
-  way_me j s tj = way_still p.own.buffers (marked m me j) (marked now me j) me j q.client tj.before.client q.client s.client (λ x lx. refl) refl
+  way_me j s tj = way_still p.own.buffers (mark_in_mail m me j) (mark_in_mail now me j) me j q.client tj.before.client q.client s.client (λ x lx. refl) refl
       (still (λ (x : P). got x.client) places me p q refl j s tj) (way_before j tj.before tj.at)
 
   pub charge : RuleStays lbts_rule m places now (slice_set places p.own.number (place_after view_after (Charged k mask) p))
@@ -187,7 +187,7 @@ module _ (p : P) (k mask : ℕ) (first : Message) (rest : List Message) (may : M
     granting = let old = (mine p m places w now deed).granting in record { lawful = old.lawful; below = old.below; within = old.within; wish = old.wish; asked = old.asked };
     sends = sends;
     ways = ways_from places me p q (WayBetween now) way_me (λ i j r s other at tj.
-        way_still r.own.buffers (marked m i j) (marked now i j) i j r.client tj.before.client r.client s.client (λ x lx. refl) refl
+        way_still r.own.buffers (mark_in_mail m i j) (mark_in_mail now i j) i j r.client tj.before.client r.client s.client (λ x lx. refl) refl
         (still (λ (x : P). got x.client) places me p q refl j s tj) (w.client.ways i j r tj.before at tj.at));
     rounds = rises_keep_rounds places me p q w.here w.client.rounds (record { rises = omega arith; is = refl });
   })

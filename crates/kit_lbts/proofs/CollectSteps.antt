@@ -31,7 +31,7 @@ use Rattle.kit_lbts.specs.Views.{is_in_hand, is_new, is_spent, time_of}
 use Rattle.kit_lbts.specs.Promises.{ledger_of}
 use Rattle.kit_lbts.specs.Letters.{Letters}
 use Rattle.kit_lbts.specs.Seats.{Granting, Receiving, Holdings, Queue, Sends, most_sends, waits_in}
-use Rattle.kit_lbts.specs.Ways.{Way, WayBetween, marked, letters_posted_to}
+use Rattle.kit_lbts.specs.Ways.{Way, WayBetween, mark_in_mail, letters_posted_to}
 use Rattle.kit_lbts.specs.Progress.{buffers_in, view_after_collect, in_hand, view_after, view_when_ready, view_after_start}
 use Rattle.kit_lbts.specs.Rule.{LbtsRule, lbts_rule}
 use Rattle.kit_lbts.specs.MessageLaws.{CollectsKeep}
@@ -94,10 +94,10 @@ module _ (p : P) (i word : ℕ) (li : i < p.own.federates) (old_seat : is_new p.
   passes : ℕ → Bool
   passes c = c / 64 == word && has_bit mail (c % 64)
 
-  here : (c : ℕ) → c / 64 ≡ word → bit_at mail (c % 64) ≡ marked m i me c
+  here : (c : ℕ) → c / 64 ≡ word → bit_at mail (c % 64) ≡ mark_in_mail m i me c
   here c same = λ t. bit_at (m (Mail me i (sym same t))) (c % 64)
 
-  came_here : (c : ℕ) → c < p.own.buffers → c / 64 ≡ word → count_by (is_in_hand i c) new ≡ marked m i me c
+  came_here : (c : ℕ) → c < p.own.buffers → c / 64 ≡ word → count_by (is_in_hand i c) new ≡ mark_in_mail m i me c
   came_here c lc same =
       count_come (λ k. k / 64 == word && has_bit mail (k % 64)) i c p.own.buffers lc
       ∙ (ap (λ (b : Bool). one_if (b && has_bit mail (c % 64))) (eq-eqb (c / 64) word same)
@@ -108,18 +108,18 @@ module _ (p : P) (i word : ℕ) (li : i < p.own.federates) (old_seat : is_new p.
       count_come (λ k. k / 64 == word && has_bit mail (k % 64)) i c p.own.buffers lc
       ∙ ap (λ (b : Bool). one_if (b && has_bit mail (c % 64))) (ne_eqb (c / 64) word other)
 
-  marked_here : (c : ℕ) → c / 64 ≡ word → marked now i me c ≡ 0
+  marked_here : (c : ℕ) → c / 64 ≡ word → mark_in_mail now i me c ≡ 0
   marked_here c same = (λ t. bit_at (now (Mail me i (same t))) (c % 64)) ∙ (ap (λ (x : ℕ). bit_at x (c % 64)) (stored_here m (Mail me i word) 0) ∙ bit_at-zero (c % 64))
 
-  marked_else : (a l c : ℕ) → (a ≡ i → l ≡ me → c / 64 ≢ word) → marked now a l c ≡ marked m a l c
+  marked_else : (a l c : ℕ) → (a ≡ i → l ≡ me → c / 64 ≢ word) → mark_in_mail now a l c ≡ mark_in_mail m a l c
   marked_else a l c apart = ap (λ (x : ℕ). bit_at x (c % 64)) (mail_else m me i word l a (c / 64) 0 apart)
 
-  moved : (c : ℕ) → c < p.own.buffers → marked now i me c + count_by (is_in_hand i c) new ≡ marked m i me c
+  moved : (c : ℕ) → c < p.own.buffers → mark_in_mail now i me c + count_by (is_in_hand i c) new ≡ mark_in_mail m i me c
   moved c lc = dite (ℕ_discrete (c / 64) word)
       (λ same. let a = marked_here c same in let b = came_here c lc same in omega arith)
       (λ other. let a = marked_else i me c (λ _ _. other) in let b = came_else c lc other in omega arith)
 
-  moved_else : (a c : ℕ) → a ≢ i → marked now a me c + count_by (is_in_hand a c) new ≡ marked m a me c
+  moved_else : (a c : ℕ) → a ≢ i → mark_in_mail now a me c + count_by (is_in_hand a c) new ≡ mark_in_mail m a me c
   moved_else a c other = let x = marked_else a me c (λ e. absurd (other e)) in let y = count_come_else i a c (buffers_in p.own.buffers word mail) other in omega arith
 
   -- ---- what is held
@@ -224,14 +224,14 @@ module _ (p : P) (i word : ℕ) (li : i < p.own.federates) (old_seat : is_new p.
       let s : sent me r.client ≡ sent me ta.before.client = still (λ (x : P). sent me x.client) places me p q (ap (sent me) is) a r ta in
       let unread : All (λ (h : InHand). h.head ≡ None) new = All-map (λ (h : InHand). h.head ≡ None) (in_hand i) (buffers_in p.own.buffers word mail) (λ k d lk. refl) in
       let less : (k : ℕ) → k < ta.before.own.buffers → k < p.own.buffers = λ k lk. subst (λ (n : ℕ). k < n) own.buffers lk in
-      let new_way : Way ta.before.own.buffers (marked now a me) a me ta.before.client then =
-      way_collected ta.before.own.buffers (marked m a me) (marked now a me) a me ta.before.client p.client new
+      let new_way : Way ta.before.own.buffers (mark_in_mail now a me) a me ta.before.client then =
+      way_collected ta.before.own.buffers (mark_in_mail m a me) (mark_in_mail now a me) a me ta.before.client p.client new
       (λ k lk. dite (ℕ_discrete a i)
-      (λ same. subst (λ (x : ℕ). marked now x me k + count_by (is_in_hand x k) new ≡ marked m x me k) (sym same) (moved k (less k lk)))
+      (λ same. subst (λ (x : ℕ). mark_in_mail now x me k + count_by (is_in_hand x k) new ≡ mark_in_mail m x me k) (sym same) (moved k (less k lk)))
       (λ other. moved_else a k other))
       unread (w.client.ways a me ta.before p ta.at w.here) in
-      subst (λ (n : ℕ). Way n (marked now a me) a me r.client q.client) (sym b)
-      (way_still ta.before.own.buffers (marked now a me) (marked now a me) a me ta.before.client then r.client q.client (λ x lx. refl) s (ap got is) new_way)
+      subst (λ (n : ℕ). Way n (mark_in_mail now a me) a me r.client q.client) (sym b)
+      (way_still ta.before.own.buffers (mark_in_mail now a me) (mark_in_mail now a me) a me ta.before.client then r.client q.client (λ x lx. refl) s (ap got is) new_way)
 
   pub collect : RuleStays lbts_rule m places now (slice_set places p.own.number (place_after view_after (Collected i word (m (Mail p.own.number i word))) p))
   collect = kept p m places w now deed (record { words = λ r. refl; federation = ap (λ (v : LbtsView). v.federation) is; same = ap said is; time = ap time_of is }) (record {
@@ -244,8 +244,8 @@ module _ (p : P) (i word : ℕ) (li : i < p.own.federates) (old_seat : is_new p.
     sends = subst (λ (v : LbtsView). Sends me (with v)) (sym is) sends;
     ways = ways_to places me p q (WayBetween now) way_me (λ a l r s other at ta.
         let b = still (λ (x : P). x.own.buffers) places me p q refl a r ta in
-        subst (λ (n : ℕ). Way n (marked now a l) a l r.client s.client) (sym b)
-        (way_still ta.before.own.buffers (marked m a l) (marked now a l) a l ta.before.client s.client r.client s.client (λ x lx. marked_else a l x (λ _ e. absurd (other e)))
+        subst (λ (n : ℕ). Way n (mark_in_mail now a l) a l r.client s.client) (sym b)
+        (way_still ta.before.own.buffers (mark_in_mail m a l) (mark_in_mail now a l) a l ta.before.client s.client r.client s.client (λ x lx. marked_else a l x (λ _ e. absurd (other e)))
         (still (λ (x : P). sent l x.client) places me p q (ap (sent l) is) a r ta) refl (w.client.ways a l ta.before s ta.at at)));
     rounds = rises_keep_rounds places me p q w.here w.client.rounds (subst (λ (v : LbtsView). Rises (ledger_of p) (ledger_of (with v))) (sym is) (record { rises = omega arith; is = refl }));
   })

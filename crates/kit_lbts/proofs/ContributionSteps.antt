@@ -29,7 +29,8 @@ use Rattle.kit_lbts.specs.declared.view.LbtsView.{LbtsView}
 use Rattle.kit_lbts.specs.declared.view.Posting.{Posting}
 use Rattle.kit_lbts.specs.Views.{is_new}
 use Rattle.kit_lbts.specs.Promises.{ledger_of, ledgers_of, next_contribution}
-use Rattle.kit_lbts.specs.Reduction.{clock_of, publishes, reg_of, share_stage}
+use Rattle.kit_lbts.specs.Reduction.{publishes, reg_of, share_stage}
+use Rattle.kit_ground.specs.Layout.{clock_of}
 use Rattle.kit_lbts.specs.Registers.{IsKnown, ShowsRound, Learnt, Registers, word_at}
 use Rattle.kit_lbts.specs.Progress.{view_after_close, view_after_close_if_flat, view_after_contribution, view_after_grant, view_after, view_when_ready, view_after_start}
 use Rattle.kit_lbts.specs.Letters.{Letters}
@@ -37,7 +38,7 @@ use Rattle.kit_lbts.specs.Seats.{most_sends}
 use Rattle.kit_lbts.specs.Rule.{LbtsRule, FederateRule, RoundsHold, lbts_rule}
 use Rattle.kit_lbts.specs.LedgerLaws.{ready_place}
 use Rattle.kit_lbts.specs.PublishLaws.{ContributionsKeep, ShowsLast}
-use Rattle.kit_lbts.specs.Ways.{Way, marked}
+use Rattle.kit_lbts.specs.Ways.{Way, mark_in_mail}
 use Rattle.kit_lbts.proofs.Changes.{ChangedAt, still}
 use Rattle.kit_lbts.proofs.Contributions.{last_is, low_is}
 use Rattle.kit_lbts.proofs.Fitting.{next_fits}
@@ -239,8 +240,8 @@ module _ (p : P) (m : Memory) (places : List P) (w : World lbts_rule p m places)
     sends = let old = mine.sends in record { own = old.own; numbered = old.numbered; next = old.next; timed = old.timed; takes_back = old.takes_back; waiting = old.waiting; late = old.late; transported = old.transported; behind = old.behind; once = old.once; each = old.each; receivers = old.receivers; coloured = coloured; few = old.few; new = λ e. absurd (true≢false (sym (ap is_new e) ∙ started)) };
     ways = λ i j x s ti tj.
         let b = still (λ (y : P). y.own.buffers) places me p q refl i x ti in
-        subst (λ (y : ℕ). Way y (marked now i j) i j x.client s.client) (sym b)
-        (way_still ti.before.own.buffers (marked m i j) (marked now i j) i j ti.before.client tj.before.client x.client s.client (λ y ly. refl)
+        subst (λ (y : ℕ). Way y (mark_in_mail now i j) i j x.client s.client) (sym b)
+        (way_still ti.before.own.buffers (mark_in_mail m i j) (mark_in_mail now i j) i j ti.before.client tj.before.client x.client s.client (λ y ly. refl)
         (still (λ (y : P). sent j y.client) places me p q refl i x ti) (still (λ (y : P). got y.client) places me p q refl j s tj) (w.client.ways i j ti.before tj.before ti.at tj.at));
     rounds = rounds_after;
   }

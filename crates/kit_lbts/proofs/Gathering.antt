@@ -16,7 +16,7 @@ use Rattle.kit_model.proofs.Joining.{first_value, next_value, last_value}
 use Rattle.kit_lbts.specs.declared.view.Scheme.{Scheme}
 use Rattle.kit_lbts.specs.declared.view.Scheme.TheVariants.{Flat, Butterfly}
 use Rattle.kit_lbts.specs.Promises.{unknown}
-use Rattle.kit_lbts.specs.Reduction.{share_stage, back_stage, Source, source, value_at, is_outer, has_outer, sources, handed_back, share_with_taken, needed, published_share}
+use Rattle.kit_lbts.specs.Reduction.{share_stage, back_stage, Source, source, value_at, is_outer, has_outer, sources, handed_back, share_with_taken, shares_needed, published_share}
 use Rattle.kit_lbts.specs.ReductionLaws.{PublishedAreValues, AllIsResult}
 
 -- the places of a butterfly, for one who has an outer federate or not
@@ -204,7 +204,7 @@ published_are_values Butterfly n x stage share taken lt few values does has =
           subst (λ s. published_share Butterfly n x (share x) taken s ≡ value_at n share x s) (sym four) (own_first Butterfly n x (share x) taken)
       | inr not_four ↦ elim (cases_eq stage back_stage) [
         | inl five ↦
-            let full : length taken ≡ length (sources Butterfly n x) = omega (arith, values.few, subst (λ s. needed Butterfly n x s ≤ length taken) five has) in
+            let full : length taken ≡ length (sources Butterfly n x) = omega (arith, values.few, subst (λ s. shares_needed Butterfly n x s ≤ length taken) five has) in
             subst (λ s. published_share Butterfly n x (share x) taken s ≡ value_at n share x s) (sym five)
             (ap (share_with_taken Butterfly n x (share x)) (take_all (length (sources Butterfly n x)) taken (omega (arith, full)))
             ∙ all_is_result Butterfly n x share taken lt few values full)
@@ -213,7 +213,7 @@ published_are_values Butterfly n x stage share taken lt few values does has =
             let five = ne_eqb stage back_stage not_five in
             let early = stage_tests stage n x (is_outer n x) (stage == share_stage) (stage == back_stage) four five does in
             let within : x < width n = ltb-true x (width n) (inside (nat_lt x (width n)) early.1) in
-            let count : needed Butterfly n x stage ≡ stage + shift (has_outer n x) = needs stage (stage == share_stage) (stage == back_stage) (length (sources Butterfly n x)) (shift (has_outer n x)) four five in
+            let count : shares_needed Butterfly n x stage ≡ stage + shift (has_outer n x) = needs stage (stage == share_stage) (stage == back_stage) (length (sources Butterfly n x)) (shift (has_outer n x)) four five in
             ap (λ k. share_with_taken Butterfly n x (share x) (take k taken)) count
             ∙ ap (λ b. by_place n x b (share x) (take (stage + shift (has_outer n x)) taken)) early.1
             ∙ gather_from n x share taken (has_outer n x) (omega arith) few within refl

@@ -25,9 +25,9 @@ use Rattle.kit_rules.specs.Parts.{Parts}
 use Rattle.kit_rules.specs.Simulation.{Block, Seat, after_block, block, lines_of, request_at, seat_due, seat_at_start}
 use Rattle.kit_model.specs.Journals.{lines_told}
 use Rattle.kit_lbts.specs.declared.view.LbtsView.{LbtsView}
-use Rattle.kit_lbts.specs.Views.{delivered, due_of, entries_of, is_new, received, time_of}
+use Rattle.kit_lbts.specs.Views.{messages_delivered, due_of, entries_of, is_new, messages_received, time_of}
 use Rattle.kit_lbts.specs.Promises.{bound_of}
-use Rattle.kit_lbts.specs.Reduction.{clock_of}
+use Rattle.kit_ground.specs.Layout.{clock_of}
 use Rattle.kit_lbts.specs.Progress.{due_in, view_after_grant, view_after}
 use Rattle.kit_lbts.specs.Rule.{lbts_rule}
 use Rattle.kit_lbts.specs.Agreement.{Agrees, AllAgree, agreeing_rule, blocks_from, blocks_in, place_at, progress_at, seat_of, transit_at, waiting_at}
@@ -92,11 +92,11 @@ module _ (p : P) (asked : p.client.request ≢ None) (none : p.client.outbox ≡
   blocks_are = ap (blocks_from me []) (step.entries_are p asked none lt below loose m places w) ∙ blocks_granted me d (entries_of v) due old.whole
 
   -- all that is timed below the known bound was received
-  heard : HasAllBelow p.client.federation (bound_of p.client) p.own.number (received p.client)
+  heard : HasAllBelow p.client.federation (bound_of p.client) p.own.number (messages_received p.client)
   heard =
       let sound = step.sound p asked none lt below loose m places w in
       let own : place_at p places me ≡ p = some_place (sym (at_or places me p (at_inside places me p w.here)) ∙ w.here) in
-      subst (λ (x : P). HasAllBelow f (bound_of v) me (received x.client)) own
+      subst (λ (x : P). HasAllBelow f (bound_of v) me (messages_received x.client)) own
       (all_is_heard_law f sound (bound_of v) (progress_at p places)
       (bounds_are_cuts_law f sound (bound_of v) (progress_at p places) (transit_at m p places) (waiting_at p places) (bounded p m places w agree)) me within)
 
@@ -104,12 +104,12 @@ module _ (p : P) (asked : p.client.request ≢ None) (none : p.client.outbox ≡
   front =
       let sound = step.sound p asked none lt below loose m places w in
       let done : List Block = blocks_in me v in
-      let G : Seat → Type 0 = λ s. s.now < f.end → seat_due f (received v) me s < bound_of v
-      → IsFront f me (done ++ block me (seat_due f (received v) me s) (due_messages f me (seat_due f (received v) me s) s.got (received v)) ∷ []) in
-      let first : G (seat_of request.0 v) = subst G before (grants_agree_law f sound (bound_of v) me within (received v) heard done old.front) in
-      let due_is : d ≡ due_time request.0 (pending_messages f me (delivered v) (received v)) =
-      step.due_is p asked none lt below loose m places w ∙ ap (due_time request.0) (w.client.each me p w.here).queue.is ∙ due_ordered request.0 (pending_messages f me (delivered v) (received v)) in
-      let H : ℕ → Type 0 = λ x. x < bound_of v → IsFront f me (done ++ block me x (due_messages f me x (delivered v) (received v)) ∷ []) in
+      let G : Seat → Type 0 = λ s. s.now < f.end → seat_due f (messages_received v) me s < bound_of v
+      → IsFront f me (done ++ block me (seat_due f (messages_received v) me s) (due_messages f me (seat_due f (messages_received v) me s) s.got (messages_received v)) ∷ []) in
+      let first : G (seat_of request.0 v) = subst G before (grants_agree_law f sound (bound_of v) me within (messages_received v) heard done old.front) in
+      let due_is : d ≡ due_time request.0 (pending_messages f me (messages_delivered v) (messages_received v)) =
+      step.due_is p asked none lt below loose m places w ∙ ap (due_time request.0) (w.client.each me p w.here).queue.is ∙ due_ordered request.0 (pending_messages f me (messages_delivered v) (messages_received v)) in
+      let H : ℕ → Type 0 = λ x. x < bound_of v → IsFront f me (done ++ block me x (due_messages f me x (messages_delivered v) (messages_received v)) ∷ []) in
       let second : H d = subst H (sym due_is) (first lt) in
       subst (λ (l : List Message). IsFront f me (done ++ block me d l ∷ [])) (sym (step.due_messages_are p asked none lt below loose m places w)) (second below)
 

@@ -44,14 +44,15 @@ use Rattle.kit_rules.proofs.Growth.{AreNumbered, AreNumbered-append, Grows}
 use Rattle.kit_lbts.specs.declared.view.Filled.{Filled}
 use Rattle.kit_lbts.specs.declared.view.Noted.{Noted}
 use Rattle.kit_lbts.specs.declared.view.LbtsView.{LbtsView}
-use Rattle.kit_lbts.specs.Views.{delivered, delivery_of, due_by, due_of, entries_of, is_empty, has_receiver, is_new, is_waiting, receipts, received, time_of, transported_of}
+use Rattle.kit_lbts.specs.Views.{messages_delivered, delivery_of, due_by, due_of, entries_of, is_empty, has_receiver, is_new, is_waiting, receipts, messages_received, time_of, transported_of}
 use Rattle.kit_lbts.specs.Promises.{added_of, bound_of, ledgers_of}
-use Rattle.kit_lbts.specs.Reduction.{clock_of, reg_of}
+use Rattle.kit_lbts.specs.Reduction.{reg_of}
+use Rattle.kit_ground.specs.Layout.{clock_of}
 use Rattle.kit_lbts.specs.Registers.{ShowsRound, Learnt, Registers, word_at}
 use Rattle.kit_lbts.specs.Letters.{Letters, letter_in}
 use Rattle.kit_lbts.specs.Seats.{AreChargedOnce, Granting, Receiving, Holdings, Queue, Sends, TakeBack, is_orphaned, left_of, most_sends}
-use Rattle.kit_lbts.specs.Ways.{Way, WayBetween, marked, letters_posted_to}
-use Rattle.kit_lbts.specs.Progress.{due_in, view_after_grant, noted, view_after}
+use Rattle.kit_lbts.specs.Ways.{Way, WayBetween, mark_in_mail, letters_posted_to}
+use Rattle.kit_lbts.specs.Progress.{due_in, view_after_grant, note_of, view_after}
 use Rattle.kit_lbts.specs.PublishLaws.{GrantsKeep}
 use Rattle.kit_lbts.specs.Rule.{LbtsRule, FederateRule, lbts_rule}
 use Rattle.kit_laws.proofs.Joins.{grows_by_block}
@@ -80,7 +81,7 @@ pub some_is : {X : Type 0} {a b : X} → Some a ≡ Some b → a ≡ b
 some_is {X} {a} {b} h = cc
 
 -- the messages of the entries of a grant
-entries_due : (d : ℕ) (due : List Message) → map (λ (e : Noted). e.entry) (map (λ m. noted (Delivered d m)) due) ≡ map (Delivered d) due
+entries_due : (d : ℕ) (due : List Message) → map (λ (e : Noted). e.entry) (map (λ m. note_of (Delivered d m)) due) ≡ map (Delivered d) due
 entries_due d [] = refl
 entries_due d (m ∷ ms) = ap (λ (l : List JournalEntry). Delivered d m ∷ l) (entries_due d ms)
 
@@ -172,31 +173,31 @@ module _ (p : P) (asked : p.client.request ≢ None) (none : p.client.outbox ≡
   time_is = granted_time me d v
 
   -- ---- what is delivered
-  queue_is : messages_of p.client.queue ≡ queue_of p.client.federation p.own.number (delivered p.client) (received p.client)
+  queue_is : messages_of p.client.queue ≡ queue_of p.client.federation p.own.number (messages_delivered p.client) (messages_received p.client)
   queue_is = mine.queue.is
 
-  pub due_messages_are : due ≡ due_messages p.client.federation p.own.number (due_of p.client) (delivered p.client) (received p.client)
+  pub due_messages_are : due ≡ due_messages p.client.federation p.own.number (due_of p.client) (messages_delivered p.client) (messages_received p.client)
   due_messages_are =
       messages_sieved (λ x. nat_le x.time d) v.queue ∙ ap (filter (λ (x : Message). nat_le x.time d)) queue_is
-      ∙ sym (queue_delivers_law f me d (delivered v) (received v))
+      ∙ sym (queue_delivers_law f me d (messages_delivered v) (messages_received v))
 
   receipts_are : receipts then ≡ receipts p.client
   receipts_are = same_receipts d due v.journal
 
-  pub received_is : received then ≡ received p.client
+  pub received_is : messages_received then ≡ messages_received p.client
   received_is = ap (map (λ (x : Filled). x.message)) receipts_are
 
   pub entries_are : entries_of then ≡ (entries_of p.client ++ map (Delivered d) due) ++ Granted d ∷ []
   entries_are =
-      map-append (λ (e : Noted). e.entry) (v.journal ++ map (λ x. noted (Delivered d x)) due) (noted (Granted d) ∷ [])
-      ∙ ap (λ (l : List JournalEntry). l ++ Granted d ∷ []) (map-append (λ (e : Noted). e.entry) v.journal (map (λ x. noted (Delivered d x)) due) ∙ ap (λ (l : List JournalEntry). entries_of v ++ l) (entries_due d due))
+      map-append (λ (e : Noted). e.entry) (v.journal ++ map (λ x. note_of (Delivered d x)) due) (note_of (Granted d) ∷ [])
+      ∙ ap (λ (l : List JournalEntry). l ++ Granted d ∷ []) (map-append (λ (e : Noted). e.entry) v.journal (map (λ x. note_of (Delivered d x)) due) ∙ ap (λ (l : List JournalEntry). entries_of v ++ l) (entries_due d due))
 
-  pub delivered_is : delivered then ≡ delivered p.client ++ due
+  pub delivered_is : messages_delivered then ≡ messages_delivered p.client ++ due
   delivered_is =
       ap (filter_map delivery_of) entries_are ∙ filter_map-append delivery_of (entries_of v ++ map (Delivered d) due) (Granted d ∷ [])
       ∙ append-nil (filter_map delivery_of (entries_of v ++ map (Delivered d) due))
       ∙ filter_map-append delivery_of (entries_of v) (map (Delivered d) due)
-      ∙ ap (λ (l : List Message). delivered v ++ l) (deliveries_in d due)
+      ∙ ap (λ (l : List Message). messages_delivered v ++ l) (deliveries_in d due)
 
   -- ---- what was sent
   grow : Grows p.own.number p.client.state after
@@ -277,8 +278,8 @@ module _ (p : P) (asked : p.client.request ≢ None) (none : p.client.outbox ≡
         ordered = subst (IsStrictlySortedBy key_cmp) (sym sieved) (IsStrictlySortedBy-filter key_cmp sieve (messages_of v.queue) old.ordered);
         apart = subst (IsDistinct shares_number) (sym sieved) (distinct_filter sieve (messages_of v.queue) old.apart);
         is =
-            sieved ∙ ap (filter sieve) queue_is ∙ sym (queue_keeps_law f me d (delivered v) (received v))
-            ∙ (λ t. queue_of f me ((ap (λ (l : List Message). delivered v ++ l) (sym due_messages_are) ∙ sym delivered_is) t) (sym received_is t));
+            sieved ∙ ap (filter sieve) queue_is ∙ sym (queue_keeps_law f me d (messages_delivered v) (messages_received v))
+            ∙ (λ t. queue_of f me ((ap (λ (l : List Message). messages_delivered v ++ l) (sym due_messages_are) ∙ sym delivered_is) t) (sym received_is t));
         ahead = subst (λ (x : ℕ). All (λ (e : Entry). x < e.message.time) then.queue) (sym time_is)
             (All-weaker (λ (e : Entry). keep e ≡ true) (λ (e : Entry). d < e.message.time) (λ e h. ltb-true d e.message.time h) then.queue (filter_passes keep v.queue));
         settled = All-filter keep (λ (e : Entry). e.buffer ≡ None → e.message.time < bound_of v) v.queue old.settled;
@@ -287,16 +288,16 @@ module _ (p : P) (asked : p.client.request ≢ None) (none : p.client.outbox ≡
   heard : Receiving then
   heard =
       let old = mine.heard in
-      let ds : List Message = due_messages f me d (delivered v) (received v) in
-      let tells : (x : Message) → Contains ds x → Contains (received v) x × (x.time ≤ d) = λ x c. let t = due_is_received_law f me d (delivered v) (received v) x c in (t.0, t.1) in
-      let came : All (Contains (received v)) ds = All-weaker (Contains ds) (Contains (received v)) (λ x c. (tells x c).0) ds (All-contains_itself ds) in
+      let ds : List Message = due_messages f me d (messages_delivered v) (messages_received v) in
+      let tells : (x : Message) → Contains ds x → Contains (messages_received v) x × (x.time ≤ d) = λ x c. let t = due_is_received_law f me d (messages_delivered v) (messages_received v) x c in (t.0, t.1) in
+      let came : All (Contains (messages_received v)) ds = All-weaker (Contains ds) (Contains (messages_received v)) (λ x c. (tells x c).0) ds (All-contains_itself ds) in
       let past : All (λ (x : Message). x.time ≤ d) ds = All-weaker (Contains ds) (λ (x : Message). x.time ≤ d) (λ x c. (tells x c).1) ds (All-contains_itself ds) in
-      let all : delivered v ++ ds ≡ delivered then = ap (λ (l : List Message). delivered v ++ l) (sym due_messages_are) ∙ sym delivered_is in
+      let all : messages_delivered v ++ ds ≡ messages_delivered then = ap (λ (l : List Message). messages_delivered v ++ l) (sym due_messages_are) ∙ sym delivered_is in
       record {
         orphans = λ i k. old.orphans i k ∙ ap (is_orphaned i k) (sym received_is);
-        came = subst (λ (x : List Message × List Message). All (Contains x.0) x.1) (λ t. (sym received_is t, all t)) (All-append (Contains (received v)) (delivered v) ds old.came came);
+        came = subst (λ (x : List Message × List Message). All (Contains x.0) x.1) (λ t. (sym received_is t, all t)) (All-append (Contains (messages_received v)) (messages_delivered v) ds old.came came);
         past = subst (λ (x : ℕ × List Message). All (λ (y : Message). y.time ≤ x.0) x.1) (λ t. (sym time_is t, all t))
-            (All-append (λ (x : Message). x.time ≤ d) (delivered v) ds (All-weaker (λ (x : Message). x.time ≤ time_of v) (λ (x : Message). x.time ≤ d) (λ x h. omega (arith, h, later)) (delivered v) old.past) past);
+            (All-append (λ (x : Message). x.time ≤ d) (messages_delivered v) ds (All-weaker (λ (x : Message). x.time ≤ time_of v) (λ (x : Message). x.time ≤ d) (λ x h. omega (arith, h, later)) (messages_delivered v) old.past) past);
       }
 
   granting : Granting q
@@ -399,9 +400,9 @@ module _ (p : P) (asked : p.client.request ≢ None) (none : p.client.outbox ≡
   way_me : (a : ℕ) (x : P) → Was places p.own.number p q a x → WayBetween now a p.own.number x q
   way_me a x ta =
       let b = still (λ (y : P). y.own.buffers) places me p q refl a x ta in
-      subst (λ (y : ℕ). Way y (marked now a me) a me x.client then) (sym b)
-      (way_granted ta.before.own.buffers (marked now a me) a me x.client v then keep receipts_are refl refl
-      (way_still ta.before.own.buffers (marked m a me) (marked now a me) a me ta.before.client v x.client v (λ y ly. refl)
+      subst (λ (y : ℕ). Way y (mark_in_mail now a me) a me x.client then) (sym b)
+      (way_granted ta.before.own.buffers (mark_in_mail now a me) a me x.client v then keep receipts_are refl refl
+      (way_still ta.before.own.buffers (mark_in_mail m a me) (mark_in_mail now a me) a me ta.before.client v x.client v (λ y ly. refl)
       (still (λ (y : P). sent me y.client) places me p q refl a x ta) refl (w.client.ways a me ta.before p ta.at w.here)))
 
   no_earlier : due_of p.client ≤ due_of then
@@ -431,8 +432,8 @@ module _ (p : P) (asked : p.client.request ≢ None) (none : p.client.outbox ≡
     sends = sends few;
     ways = ways_to places me p q (WayBetween now) way_me (λ a l x s other at ta.
         let b = still (λ (y : P). y.own.buffers) places me p q refl a x ta in
-        subst (λ (y : ℕ). Way y (marked now a l) a l x.client s.client) (sym b)
-        (way_still ta.before.own.buffers (marked m a l) (marked now a l) a l ta.before.client s.client x.client s.client (λ y ly. refl)
+        subst (λ (y : ℕ). Way y (mark_in_mail now a l) a l x.client s.client) (sym b)
+        (way_still ta.before.own.buffers (mark_in_mail m a l) (mark_in_mail now a l) a l ta.before.client s.client x.client s.client (λ y ly. refl)
         (still (λ (y : P). sent l y.client) places me p q refl a x ta) refl (w.client.ways a l ta.before s ta.at at)));
     rounds = rises_keep_rounds places me p q w.here w.client.rounds (grants_are p idle (omega (arith, later)) no_earlier);
   }

@@ -20,7 +20,7 @@ use Rattle.kit_lbts.specs.declared.view.LbtsView.{LbtsView}
 use Rattle.kit_lbts.specs.Views.{is_in_hand, is_spent}
 use Rattle.kit_lbts.specs.Letters.{Letters, IsLetter, letter_in}
 use Rattle.kit_lbts.specs.Seats.{Holdings, waits_in}
-use Rattle.kit_lbts.specs.Ways.{Way, WayBetween, marked}
+use Rattle.kit_lbts.specs.Ways.{Way, WayBetween, mark_in_mail}
 use Rattle.kit_lbts.specs.Progress.{view_after}
 use Rattle.kit_lbts.specs.Rule.{lbts_rule}
 use Rattle.kit_lbts.specs.MessageLaws.{HeadsKeep}
@@ -87,12 +87,12 @@ module _ (p : P) (i k : ℕ) (li : i < p.own.federates) (lk : k < p.own.buffers)
   way_me a r ta =
       let b = still (λ (x : P). x.own.buffers) places me p q refl a r ta in
       let li' : i < length places = subst (λ (n : ℕ). i < n) (w.floor.each me p w.here).federates li in
-      let old : Way ta.before.own.buffers (marked m a me) a me ta.before.client q.client =
-      way_headed ta.before.own.buffers (marked m a me) a me ta.before.client p.client i k word
+      let old : Way ta.before.own.buffers (mark_in_mail m a me) a me ta.before.client q.client =
+      way_headed ta.before.own.buffers (mark_in_mail m a me) a me ta.before.client p.client i k word
       (λ same. (held_letter p m places w i k ta.before (subst (λ (x : ℕ). get_elem? places x ≡ some ta.before) same ta.at) lk held li').head)
       (w.client.ways a me ta.before p ta.at w.here) in
-      subst (λ (n : ℕ). Way n (marked now a me) a me r.client q.client) (sym b)
-      (way_still ta.before.own.buffers (marked m a me) (marked now a me) a me ta.before.client q.client r.client q.client (λ x lx. refl)
+      subst (λ (n : ℕ). Way n (mark_in_mail now a me) a me r.client q.client) (sym b)
+      (way_still ta.before.own.buffers (mark_in_mail m a me) (mark_in_mail now a me) a me ta.before.client q.client r.client q.client (λ x lx. refl)
       (still (λ (x : P). sent me x.client) places me p q refl a r ta) refl old)
 
   pub head_read : RuleStays lbts_rule m places now (slice_set places p.own.number (place_after view_after (ReadPart i k 0 (m (Part i k 0))) p))
@@ -106,8 +106,8 @@ module _ (p : P) (i k : ℕ) (li : i < p.own.federates) (lk : k < p.own.buffers)
     sends = let old = (mine p m places w now deed).sends in record { own = old.own; numbered = old.numbered; next = old.next; timed = old.timed; takes_back = old.takes_back; waiting = old.waiting; late = old.late; transported = old.transported; behind = old.behind; once = old.once; each = old.each; receivers = old.receivers; coloured = old.coloured; few = old.few; new = λ e. let t = old.new e in (t.0, t.1, t.2, t.3, ap (map (headed i k word)) t.4, t.5) };
     ways = ways_to places me p q (WayBetween now) way_me (λ a l r s other at ta.
         let b = still (λ (x : P). x.own.buffers) places me p q refl a r ta in
-        subst (λ (n : ℕ). Way n (marked now a l) a l r.client s.client) (sym b)
-        (way_still ta.before.own.buffers (marked m a l) (marked now a l) a l ta.before.client s.client r.client s.client (λ x lx. refl)
+        subst (λ (n : ℕ). Way n (mark_in_mail now a l) a l r.client s.client) (sym b)
+        (way_still ta.before.own.buffers (mark_in_mail m a l) (mark_in_mail now a l) a l ta.before.client s.client r.client s.client (λ x lx. refl)
         (still (λ (x : P). sent l x.client) places me p q refl a r ta) refl (w.client.ways a l ta.before s ta.at at)));
     rounds = rises_keep_rounds places me p q w.here w.client.rounds (record { rises = omega arith; is = refl });
   })

@@ -17,7 +17,7 @@ use Rattle.kit_lbts.specs.declared.view.Filled.{Filled}
 use Rattle.kit_lbts.specs.declared.view.LbtsView.{LbtsView}
 use Rattle.kit_lbts.specs.Letters.{Letters}
 use Rattle.kit_lbts.specs.Seats.{Holdings, Queue, Receiving, Granting, Sends}
-use Rattle.kit_lbts.specs.Ways.{Way, marked, letters_posted_to}
+use Rattle.kit_lbts.specs.Ways.{Way, mark_in_mail, letters_posted_to}
 use Rattle.kit_lbts.specs.Views.{time_of}
 use Rattle.kit_lbts.specs.Promises.{ledger_of}
 use Rattle.kit_lbts.specs.Progress.{view_after}
@@ -109,8 +109,8 @@ module _ (p : P) (m : Memory) (places : List P) (w : World lbts_rule p m places)
         let vr = still (λ (x : P). x.client) places p.own.number p q leaves.view i r ti in
         let vs = still (λ (x : P). x.client) places p.own.number p q leaves.view j s tj in
         let b = still (λ (x : P). x.own.buffers) places p.own.number p q refl i r ti in
-        subst (λ (n : ℕ). Way n (marked now i j) i j r.client s.client) (sym b)
-        (way_still ti.before.own.buffers (marked m i j) (marked now i j) i j ti.before.client tj.before.client r.client s.client
+        subst (λ (n : ℕ). Way n (mark_in_mail now i j) i j r.client s.client) (sym b)
+        (way_still ti.before.own.buffers (mark_in_mail m i j) (mark_in_mail now i j) i j ti.before.client tj.before.client r.client s.client
         (λ k lk. ap (λ (x : ℕ). bit_at x (k % 64)) (leaves.mail j i (k / 64))) (ap (sent j) vr) (ap got vs) (w.client.ways i j ti.before tj.before ti.at tj.at));
     rounds = rises_keep_rounds places p.own.number p (place_after view_after deed p) w.here w.client.rounds
         (subst (λ (v : LbtsView). Rises (ledger_of p) (ledger_of (with v))) (sym leaves.view) (record { rises = omega arith; is = refl }));

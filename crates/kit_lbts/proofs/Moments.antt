@@ -31,11 +31,11 @@ use Rattle.kit_lbts.specs.declared.view.Filled.{Filled}
 use Rattle.kit_lbts.specs.declared.view.Noted.{Noted}
 use Rattle.kit_lbts.specs.declared.view.Posting.{Posting}
 use Rattle.kit_lbts.specs.declared.view.LbtsView.{LbtsView}
-use Rattle.kit_lbts.specs.Views.{delivered, due_by, due_of, is_empty, has_receiver, is_new, is_waiting, receipts, received, time_of}
+use Rattle.kit_lbts.specs.Views.{messages_delivered, due_by, due_of, is_empty, has_receiver, is_new, is_waiting, receipts, messages_received, time_of}
 use Rattle.kit_lbts.specs.Promises.{added_of, bound_of, copy_posted, copy_received, ledger_of, ledgers_of, promise_of, promise_by, stamp_of}
 use Rattle.kit_lbts.specs.Letters.{letter_in}
 use Rattle.kit_lbts.specs.Seats.{is_owed, left_of}
-use Rattle.kit_lbts.specs.Ways.{copies_on_way, marked, passing_copies, letters_posted_to, letters_received_from}
+use Rattle.kit_lbts.specs.Ways.{copies_on_way, mark_in_mail, passing_copies, letters_posted_to, letters_received_from}
 use Rattle.kit_lbts.specs.Rule.{FederateRule, lbts_rule}
 use Rattle.kit_lbts.specs.Agreement.{Agrees, AllAgree, blocks_in, done_of, messages_on_way, place_at, progress_at, progress_of, transit_at, waiting_at}
 use Rattle.kit_lbts.specs.AgreementLaws.{KnownBoundsBound, MomentsAreSound}
@@ -176,18 +176,18 @@ module _ (p : P) (m : Memory) (places : List P) (w : World lbts_rule p m places)
           let zero_time : time_of v ≡ 0 = ap (λ (l : List Noted). now_of (map (λ (x : Noted). x.entry) l)) none.2 in
           let waits : is_waiting v ≡ true = ap (λ (o : Option Request). is_new o || not (is_empty v.outbox)) e in
           let some_end : 0 < g.end = subst (λ (x : Parts). 0 < x.end) (sym (federation_is j lt)) sound.end.0 in
-          ap (λ (o : Option Request). promise_after g j (not (is_empty v.outbox)) (received v) (done_of o (blocks_in j v))) e
+          ap (λ (o : Option Request). promise_after g j (not (is_empty v.outbox)) (messages_received v) (done_of o (blocks_in j v))) e
           ∙ sym ((λ t. promise_by g.end (add_is t) (zero_time t) (due_of v) (waits t)) ∙ promised_below g.end look 0 (due_of v) true some_end)
       by (Some r) e =
           let v : LbtsView = (q j).client in
           let g : Parts = v.federation in
           let look : ℕ = effective_lookahead g j in
           let x : Bool = not (is_empty v.outbox) in
-          let due : ℕ = due_time r (pending_messages g j (delivered v) (received v)) in
-          let due_is : due_of v ≡ due = ap (λ (o : Option Request). due_by o (messages_of v.queue)) e ∙ ap (due_time r) (seat j lt).queue.is ∙ due_ordered r (pending_messages g j (delivered v) (received v)) in
+          let due : ℕ = due_time r (pending_messages g j (messages_delivered v) (messages_received v)) in
+          let due_is : due_of v ≡ due = ap (λ (o : Option Request). due_by o (messages_of v.queue)) e ∙ ap (due_time r) (seat j lt).queue.is ∙ due_ordered r (pending_messages g j (messages_delivered v) (messages_received v)) in
           let waits : is_waiting v ≡ x = ap (λ (o : Option Request). is_new o || not (is_empty v.outbox)) e in
-          ap (λ (o : Option Request). promise_after g j x (received v) (done_of o (blocks_in j v))) e
-          ∙ ap (seat_promise g j x (received v)) ((agrees j lt).seat r e)
+          ap (λ (o : Option Request). promise_after g j x (messages_received v) (done_of o (blocks_in j v))) e
+          ∙ ap (seat_promise g j x (messages_received v)) ((agrees j lt).seat r e)
           ∙ same_promise g.end look (time_of v) due x
           ∙ sym (λ t. promise_by g.end (add_is t) (time_of v) (due_is t) (waits t))
 
@@ -214,7 +214,7 @@ module _ (p : P) (m : Memory) (places : List P) (w : World lbts_rule p m places)
           let b : ℕ = (q j).own.buffers in
           let left : List Message = left_of v.sending (q j).own.stock g i v.outbox in
           let t : Filled → Bool = λ x. test x.message in
-          let copies : ℕ → ℕ = copies_on_way (marked m j i) j u.in_hand in
+          let copies : ℕ → ℕ = copies_on_way (mark_in_mail m j i) j u.in_hand in
           let inside : i < (q j).own.federates = subst (λ (k : ℕ). i < k) (sym (w.floor.each j (q j) (there j lj)).federates) li in
           let posted : count_by test (map (λ (x : Filled). x.message) (letters_posted_to i v)) ≡ count_by t (letters_received_from j u) + passing_copies t (letter_in v) copies b =
           count_map (λ (x : Filled). x.message) test t (letters_posted_to i v) (λ x. refl) ∙ (w.client.ways j i (q j) (q i) (there j lj) (there i li)).copies t in
@@ -255,13 +255,13 @@ module _ (p : P) (m : Memory) (places : List P) (w : World lbts_rule p m places)
 
   -- ---- a copy on its way was not received
   unreceived : (j i k : ℕ) → j < length places → i < length places → k < (place_at p places j).own.buffers
-      → 0 < copies_on_way (marked m j i) j (place_at p places i).client.in_hand k → IsUnreceived (ledgers_of places) j i (stamp_of (letter_in (place_at p places j).client k))
+      → 0 < copies_on_way (mark_in_mail m j i) j (place_at p places i).client.in_hand k → IsUnreceived (ledgers_of places) j i (stamp_of (letter_in (place_at p places j).client k))
   unreceived j i k lj li lk some_copy =
       let v : LbtsView = (q j).client in
       let u : LbtsView = (q i).client in
       let s : Stamp = stamp_of (letter_in v k) in
       let t : Filled → Bool = λ x. same_stamp (stamp_of x) s in
-      let copies : ℕ → ℕ = copies_on_way (marked m j i) j u.in_hand in
+      let copies : ℕ → ℕ = copies_on_way (mark_in_mail m j i) j u.in_hand in
       let b : ℕ = (q j).own.buffers in
       let lq : ledgers_of places j ≡ ledger_of (q j) = at_map_or ledger_of places j (q j) blank (there j lj) in
       let lu : ledgers_of places i ≡ ledger_of (q i) = at_map_or ledger_of places i (q i) blank (there i li) in
@@ -287,7 +287,7 @@ module _ (p : P) (m : Memory) (places : List P) (w : World lbts_rule p m places)
         sound = moment;
         transit_late = λ j i lj li.
             let u : LbtsView = (q i).client in
-            all_on_way (λ (x : Message). bound_of p.client ≤ x.time) (letter_in (q j).client) (copies_on_way (marked m j i) j u.in_hand) (q j).own.buffers
+            all_on_way (λ (x : Message). bound_of p.client ≤ x.time) (letter_in (q j).client) (copies_on_way (mark_in_mail m j i) j u.in_hand) (q j).own.buffers
             (λ k lk some_copy. bound.copies j i (stamp_of (letter_in (q j).client k)) (within j lj) (within i li) (unreceived j i k (within j lj) (within i li) lk some_copy));
         promised = λ i li.
             let l = within i li in

@@ -16,7 +16,7 @@ use Rattle.kit_ground.proofs.SetFacts.{free_in_none, to_be_posted_due}
 use Rattle.kit_lbts.specs.declared.view.LbtsView.{LbtsView}
 use Rattle.kit_lbts.specs.Views.{is_in_hand, is_spent}
 use Rattle.kit_lbts.specs.Seats.{waits_in}
-use Rattle.kit_lbts.specs.Ways.{marked}
+use Rattle.kit_lbts.specs.Ways.{mark_in_mail}
 use Rattle.kit_lbts.specs.Rule.{lbts_rule}
 
 abbrev P : Type 0
@@ -59,12 +59,12 @@ module _ (p : P) (m : Memory) (places : List P) (w : World lbts_rule p m places)
       owner_is = at_map_or stock_of places i r no_buffers ati
 
       -- a buffer that its owner saw free is not on its way, nor is one that is still to be posted
-      pub free_off : (buffer_of r.own.stock k).free ≡ true → (marked m i j k ≡ 0) × (bit_at (slice_index s.own.stock.holds i) k ≡ 0)
+      pub free_off : (buffer_of r.own.stock k).free ≡ true → (mark_in_mail m i j k ≡ 0) × (bit_at (slice_index s.own.stock.holds i) k ≡ 0)
       free_off free =
           let t = free_in_none m stocks (length places) p.own.buffers w.floor.pool i k inside lk j there (ap (λ (x : SeatBuffers). (buffer_of x k).free) owner_is ∙ free) in
           (t.posted, sym (holding_is i k) ∙ t.holding)
 
-      pub owed_off : bit_at (buffer_of r.own.stock k).to_post j ≡ 1 → (marked m i j k ≡ 0) × (bit_at (slice_index s.own.stock.holds i) k ≡ 0)
+      pub owed_off : bit_at (buffer_of r.own.stock k).to_post j ≡ 1 → (mark_in_mail m i j k ≡ 0) × (bit_at (slice_index s.own.stock.holds i) k ≡ 0)
       owed_off owed =
           let t = to_be_posted_due m stocks (length places) p.own.buffers w.floor.pool i k inside lk j there (ap (λ (x : SeatBuffers). bit_at (buffer_of x k).to_post j) owner_is ∙ owed) in
           (t.1, sym (holding_is i k) ∙ t.2)

@@ -27,7 +27,7 @@ use Rattle.kit_lbts.specs.declared.view.LbtsView.{LbtsView}
 use Rattle.kit_lbts.specs.Promises.{ledger_of, ledgers_of}
 use Rattle.kit_lbts.specs.Registers.{Registers, Learnt}
 use Rattle.kit_lbts.specs.Letters.{Letters, letter_in}
-use Rattle.kit_lbts.specs.Ways.{WayBetween, marked}
+use Rattle.kit_lbts.specs.Ways.{WayBetween, mark_in_mail}
 use Rattle.kit_lbts.specs.Seats.{Holdings, Queue, Receiving, Granting, Sends}
 use Rattle.kit_lbts.specs.Progress.{lbts_first}
 use Rattle.kit_lbts.specs.Rule.{Common, FederateRule, RoundsHold, LbtsRule}
@@ -134,7 +134,7 @@ module _ (o : Opening) (sound : IsFederation o.federation.value) where
 
   ways : (i j : ℕ) → WayBetween zero_memory i j (seat i) (seat j)
   ways i j = record {
-    copies = λ t. sym (ap (λ (x : ℕ). 0 + x) (sum_zero (λ k. cond (t (letter_in (seat i).client k)) (marked zero_memory i j k + 0) 0) f.buffers (λ k lk. none (t (letter_in (seat i).client k)) (marked zero_memory i j k) (bit_at-zero (k % 64)))));
+    copies = λ t. sym (ap (λ (x : ℕ). 0 + x) (sum_zero (λ k. cond (t (letter_in (seat i).client k)) (mark_in_mail zero_memory i j k + 0) 0) f.buffers (λ k lk. none (t (letter_in (seat i).client k)) (mark_in_mail zero_memory i j k) (bit_at-zero (k % 64)))));
     heads = All-nil _;
     lies = All-nil _;
   }

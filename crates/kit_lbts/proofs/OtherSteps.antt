@@ -26,7 +26,7 @@ use Rattle.kit_lbts.specs.declared.view.LbtsView.{LbtsView}
 use Rattle.kit_lbts.specs.declared.view.Noted.{Noted}
 use Rattle.kit_lbts.specs.declared.view.Scheme.{Scheme}
 use Rattle.kit_lbts.specs.declared.view.Scheme.TheVariants.{Flat, Butterfly}
-use Rattle.kit_lbts.specs.Views.{delivered, delivery_of, entries_of, is_in_hand, is_new, is_orphan, is_spent}
+use Rattle.kit_lbts.specs.Views.{messages_delivered, delivery_of, entries_of, is_in_hand, is_new, is_orphan, is_spent}
 use Rattle.kit_lbts.specs.Promises.{next_contribution}
 use Rattle.kit_lbts.specs.Reduction.{share_with_taken, next_source, share_stage, sources}
 use Rattle.kit_lbts.specs.Seats.{waits_in}
@@ -97,7 +97,7 @@ entered_tells m colour hands v =
       lines = λ j. ap (lines_told j) more ∙ flat_map-append (line_told j) (entries_of v) (Received m ∷ []) ∙ append-nil (lines_told j (entries_of v));
       blocks = λ j. ap (blocks_from j []) more ∙ blocks_on j [] (entries_of v) (Received m ∷ []) ∙ append-nil (blocks_in j v);
       time = ap now_of more ∙ others_keep_the_time (entries_of v) (Received m) refl;
-      delivered = ap (filter_map delivery_of) more ∙ filter_map-append delivery_of (entries_of v) (Received m ∷ []) ∙ append-nil (delivered v);
+      delivered = ap (filter_map delivery_of) more ∙ filter_map-append delivery_of (entries_of v) (Received m ∷ []) ∙ append-nil (messages_delivered v);
     }
 
 received_tells : (i k body : ℕ) (v : LbtsView) → TellsTheSame v (received_whole i k body v)

@@ -21,7 +21,8 @@ use Rattle.kit_rounds.proofs.Knowing.{contributions_last}
 use Rattle.kit_rounds.proofs.Results.{same_result}
 use Rattle.kit_lbts.specs.declared.view.LbtsView.{LbtsView}
 use Rattle.kit_lbts.specs.Promises.{ledgers_of, unknown}
-use Rattle.kit_lbts.specs.Reduction.{Source, clock_of, share_with_taken, reg_of, source, sources}
+use Rattle.kit_lbts.specs.Reduction.{Source, share_with_taken, reg_of, source, sources}
+use Rattle.kit_ground.specs.Layout.{clock_of}
 use Rattle.kit_lbts.specs.Registers.{IsKnown, ShowsRound, Learnt, Registers, word_at}
 use Rattle.kit_lbts.specs.Progress.{view_after_close, is_under_way, own_share}
 use Rattle.kit_lbts.specs.Rule.{LbtsRule, FederateRule, lbts_rule}

@@ -13,7 +13,7 @@ use Rattle.kit_lbts.specs.declared.view.Noted.{Noted}
 use Rattle.kit_lbts.specs.declared.view.LbtsView.{LbtsView}
 use Rattle.kit_lbts.specs.Views.{time_of, due_of, is_new, is_empty, is_waiting, receipt_of, receipts_in}
 use Rattle.kit_lbts.specs.Promises.{added_of, promise_of, promise_by, ledger_of, copy_received}
-use Rattle.kit_lbts.specs.Progress.{view_after_start, noted, due_in, view_after_grant}
+use Rattle.kit_lbts.specs.Progress.{view_after_start, note_of, due_in, view_after_grant}
 use Rattle.kit_lbts.specs.LedgerLaws.{ReadyIs, CollectsAre, GrantsAre}
 use Rattle.kit_lbts.proofs.Promising.{rises_idle, granted_rises}
 
@@ -45,22 +45,22 @@ collects_are p i word mail le =
     record { rises = h.rises; is = h.is }
 
 -- entries of deliveries and of a grant tell of no receipt
-no_receipts : (d : ℕ) (due : List Message) → receipts_in (map (λ m. noted (Delivered d m)) due) ≡ []
+no_receipts : (d : ℕ) (due : List Message) → receipts_in (map (λ m. note_of (Delivered d m)) due) ≡ []
 no_receipts d [] = refl
 no_receipts d (m ∷ ms) = no_receipts d ms
 
-pub same_receipts : (d : ℕ) (due : List Message) (ns : List Noted) → receipts_in (ns ++ map (λ m. noted (Delivered d m)) due ++ noted (Granted d) ∷ []) ≡ receipts_in ns
+pub same_receipts : (d : ℕ) (due : List Message) (ns : List Noted) → receipts_in (ns ++ map (λ m. note_of (Delivered d m)) due ++ note_of (Granted d) ∷ []) ≡ receipts_in ns
 same_receipts d due ns =
-    filter_map-append (λ (e : Noted). receipt_of e.entry e.colour) (ns ++ map (λ m. noted (Delivered d m)) due) (noted (Granted d) ∷ [])
-    ∙ append-nil (receipts_in (ns ++ map (λ m. noted (Delivered d m)) due))
-    ∙ filter_map-append (λ (e : Noted). receipt_of e.entry e.colour) ns (map (λ m. noted (Delivered d m)) due)
+    filter_map-append (λ (e : Noted). receipt_of e.entry e.colour) (ns ++ map (λ m. note_of (Delivered d m)) due) (note_of (Granted d) ∷ [])
+    ∙ append-nil (receipts_in (ns ++ map (λ m. note_of (Delivered d m)) due))
+    ∙ filter_map-append (λ (e : Noted). receipt_of e.entry e.colour) ns (map (λ m. note_of (Delivered d m)) due)
     ∙ ap (λ fs. receipts_in ns ++ fs) (no_receipts d due) ∙ append-nil (receipts_in ns)
 
 -- the time that was granted is the logical time
 pub granted_time : (j d : ℕ) (v : LbtsView) → time_of (view_after_grant j d v) ≡ d
 granted_time j d v =
-    ap now_of (map-append (λ (e : Noted). e.entry) (v.journal ++ map (λ m. noted (Delivered d m)) (due_in d v.queue)) (noted (Granted d) ∷ []))
-    ∙ now_of-granted (map (λ (e : Noted). e.entry) (v.journal ++ map (λ m. noted (Delivered d m)) (due_in d v.queue))) d
+    ap now_of (map-append (λ (e : Noted). e.entry) (v.journal ++ map (λ m. note_of (Delivered d m)) (due_in d v.queue)) (note_of (Granted d) ∷ []))
+    ∙ now_of-granted (map (λ (e : Noted). e.entry) (v.journal ++ map (λ m. note_of (Delivered d m)) (due_in d v.queue))) d
 
 pub grants_are : GrantsAre
 grants_are p idle ahead later =

@@ -30,7 +30,7 @@ use Rattle.kit_lbts.specs.Views.{is_in_hand, is_spent, time_of}
 use Rattle.kit_lbts.specs.Promises.{bound_of, ledger_of}
 use Rattle.kit_lbts.specs.Letters.{Letters, letter_in}
 use Rattle.kit_lbts.specs.Seats.{Granting, Receiving, Holdings, Queue, Sends, waits_in}
-use Rattle.kit_lbts.specs.Ways.{Way, WayBetween, marked, letters_posted_to}
+use Rattle.kit_lbts.specs.Ways.{Way, WayBetween, mark_in_mail, letters_posted_to}
 use Rattle.kit_lbts.specs.Progress.{view_after, put_down}
 use Rattle.kit_lbts.specs.Rule.{lbts_rule}
 use Rattle.kit_lbts.specs.MessageLaws.{MaySettle, ReleasesKeep}
@@ -171,9 +171,9 @@ module _ (p : P) (i k : ℕ) (li : i < p.own.federates) (lk : k < p.own.buffers)
         let b = still (λ (x : P). x.own.buffers) places me p q refl a r ta in
         let s : sent me r.client ≡ sent me ta.before.client = still (λ (x : P). sent me x.client) places me p q (ap (sent me) left.is) a r ta in
         let old = w.client.ways a me ta.before p ta.at w.here in
-        let new : Way ta.before.own.buffers (marked m a me) a me ta.before.client then = record { copies = old.copies; heads = old.heads; lies = left.lies a ta.before.client old.lies } in
-        subst (λ (n : ℕ). Way n (marked now a me) a me r.client q.client) (sym b)
-        (way_still ta.before.own.buffers (marked m a me) (marked now a me) a me ta.before.client then r.client q.client (λ x lx. refl) s (ap got left.is) new)
+        let new : Way ta.before.own.buffers (mark_in_mail m a me) a me ta.before.client then = record { copies = old.copies; heads = old.heads; lies = left.lies a ta.before.client old.lies } in
+        subst (λ (n : ℕ). Way n (mark_in_mail now a me) a me r.client q.client) (sym b)
+        (way_still ta.before.own.buffers (mark_in_mail m a me) (mark_in_mail now a me) a me ta.before.client then r.client q.client (λ x lx. refl) s (ap got left.is) new)
 
     pub release : RuleStays lbts_rule m places now (slice_set places p.own.number (place_after view_after (Released i k) p))
     release = kept p m places w now deed (record { words = λ r. refl; federation = ap (λ (v : LbtsView). v.federation) left.is; same = ap said left.is; time = ap time_of left.is }) (record {
@@ -186,8 +186,8 @@ module _ (p : P) (i k : ℕ) (li : i < p.own.federates) (lk : k < p.own.buffers)
       sends = subst (λ (v : LbtsView). Sends me (with v)) (sym left.is) sends;
       ways = ways_to places me p q (WayBetween now) way_me (λ a l r s other at ta.
           let b = still (λ (x : P). x.own.buffers) places me p q refl a r ta in
-          subst (λ (n : ℕ). Way n (marked now a l) a l r.client s.client) (sym b)
-          (way_still ta.before.own.buffers (marked m a l) (marked now a l) a l ta.before.client s.client r.client s.client (λ x lx. refl)
+          subst (λ (n : ℕ). Way n (mark_in_mail now a l) a l r.client s.client) (sym b)
+          (way_still ta.before.own.buffers (mark_in_mail m a l) (mark_in_mail now a l) a l ta.before.client s.client r.client s.client (λ x lx. refl)
           (still (λ (x : P). sent l x.client) places me p q (ap (sent l) left.is) a r ta) refl (w.client.ways a l ta.before s ta.at at)));
       rounds = rises_keep_rounds places me p q w.here w.client.rounds (subst (Rises (ledger_of p)) (sym (asides_leave_ledgers p deed tt)) (record { rises = omega arith; is = refl }));
     })

@@ -28,7 +28,7 @@ use Rattle.kit_lbts.specs.Promises.{bound_of, copy_posted, ledger_of, ledgers_of
 use Rattle.kit_lbts.specs.Rule.{FederateRule}
 use Rattle.kit_lbts.specs.SeatLaws.{CopiesAreFew, DuesAreAhead, DuesGoByFirst, IsInWorld, NextSharesFit, PlacesTell, ReceiptsAreNear}
 use Rattle.kit_lbts.specs.Seats.{most_sends}
-use Rattle.kit_lbts.specs.Views.{delivered, due_by, entries_of, is_new, receipts, received, time_of}
+use Rattle.kit_lbts.specs.Views.{messages_delivered, due_by, entries_of, is_new, receipts, messages_received, time_of}
 use Rattle.kit_lbts.specs.Ways.{letters_posted_to, letters_received_from}
 use Rattle.kit_lbts.specs.Progress.{view_after_start}
 use Rattle.kit_lbts.proofs.Dues.{due_between}
@@ -73,7 +73,7 @@ pub dues_go_by_first : DuesGoByFirst
 dues_go_by_first p (m, places, w) r is =
     let rule : FederateRule m places p.own.number p = w.client.floor.each p.own.number p w.here in
     let v : LbtsView = p.client in
-    ap (λ (o : Option Request). due_by o (messages_of v.queue)) is ∙ by r v.federation p.own.number (delivered v) (received v) (messages_of v.queue) rule.queue.is
+    ap (λ (o : Option Request). due_by o (messages_of v.queue)) is ∙ by r v.federation p.own.number (messages_delivered v) (messages_received v) (messages_of v.queue) rule.queue.is
   where
     by : (r : Request) (f : Parts) (j : ℕ) (got came ms : List Message) → ms ≡ in_order (pending_messages f j got came) → due_time r ms ≡ due_by_queue r ms
     by r f j got came ms e = ap (due_time r) e ∙ (due_ordered r (pending_messages f j got came) ∙ (dues_by_queue f j r got came ∙ ap (due_by_queue r) (sym e)))

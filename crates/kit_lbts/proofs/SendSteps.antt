@@ -38,7 +38,7 @@ use Rattle.kit_lbts.specs.Promises.{added_of, copy_posted}
 use Rattle.kit_lbts.specs.Letters.{IsSending, Letters, letter_in}
 use Rattle.kit_lbts.specs.LedgerLaws.{IsPostable}
 use Rattle.kit_lbts.specs.Seats.{AreChargedOnce, Sends, left_of}
-use Rattle.kit_lbts.specs.Ways.{Way, WayBetween, copies_on_way, marked, letters_posted_to}
+use Rattle.kit_lbts.specs.Ways.{Way, WayBetween, copies_on_way, mark_in_mail, letters_posted_to}
 use Rattle.kit_lbts.specs.Progress.{view_after}
 use Rattle.kit_lbts.specs.Rule.{RoundsHold, lbts_rule}
 use Rattle.kit_lbts.specs.MessageLaws.{PostsKeep}
@@ -267,10 +267,10 @@ module _ (p : P) (k j : ℕ) (lk : k < p.own.buffers) (lj : j < p.own.federates)
       }
 
   -- ---- the channels
-  marked_here : marked now me j k ≡ 1
+  marked_here : mark_in_mail now me j k ≡ 1
   marked_here = ap (λ (x : ℕ). bit_at x (k % 64)) (stored_here m (Mail j me (k / 64)) (becomes deed (m (Mail j me (k / 64))))) ∙ joined_here (m (Mail j me (k / 64))) (k % 64)
 
-  marked_there : (x : ℕ) → x ≢ k → marked now me j x ≡ marked m me j x
+  marked_there : (x : ℕ) → x ≢ k → mark_in_mail now me j x ≡ mark_in_mail m me j x
   marked_there x other =
       let old : ℕ = m (Mail j me (k / 64)) in
       dite (ℕ_discrete (x / 64) (k / 64))
@@ -279,25 +279,25 @@ module _ (p : P) (k j : ℕ) (lk : k < p.own.buffers) (lj : j < p.own.federates)
       ∙ (joined_else old (k % 64) (x % 64) (λ e. other (same_buffer x k same e)) ∙ (λ t. bit_at (m (Mail j me (sym same t))) (x % 64)))))
       (λ apart. ap (λ (y : ℕ). bit_at y (x % 64)) (mail_else m j me (k / 64) j me (x / 64) (becomes deed old) (λ _ _. apart)))
 
-  marked_else : (i l : ℕ) → (i ≡ me → l ≢ j) → (x : ℕ) → marked now i l x ≡ marked m i l x
+  marked_else : (i l : ℕ) → (i ≡ me → l ≢ j) → (x : ℕ) → mark_in_mail now i l x ≡ mark_in_mail m i l x
   marked_else i l apart x = ap (λ (y : ℕ). bit_at y (x % 64)) (mail_else m j me (k / 64) l i (x / 64) (becomes deed (m (Mail j me (k / 64)))) (λ a e. absurd (apart a e)))
 
   there_me : p.own.number < length places
   there_me = at_inside places p.own.number p w.here
 
-  way_here : (s : P) → get_elem? places j ≡ some s → Way p.own.buffers (marked now me j) me j q.client s.client
+  way_here : (s : P) → get_elem? places j ≡ some s → Way p.own.buffers (mark_in_mail now me j) me j q.client s.client
   way_here s at =
       let t = owed_off p m places w j s at me k p w.here lk owed in
       let n = not_held p m places w j s at me k there_me lk t.1 in
-      let off : copies_on_way (marked m me j) me s.client.in_hand k ≡ 0 = both_zero (marked m me j k) (count_by (is_in_hand me k) s.client.in_hand) t.0 n.0 in
-      way_posted p.own.buffers (marked m me j) (marked now me j) me j p.client s.client q.client k lk posted_here refl off marked_here (λ x lx other. marked_there x other) (w.client.ways me j p s w.here at)
+      let off : copies_on_way (mark_in_mail m me j) me s.client.in_hand k ≡ 0 = both_zero (mark_in_mail m me j k) (count_by (is_in_hand me k) s.client.in_hand) t.0 n.0 in
+      way_posted p.own.buffers (mark_in_mail m me j) (mark_in_mail now me j) me j p.client s.client q.client k lk posted_here refl off marked_here (λ x lx other. marked_there x other) (w.client.ways me j p s w.here at)
 
   way_me : (l : ℕ) (s : P) → Was places me p q l s → WayBetween now me l q s
   way_me l s tl = dite (ℕ_discrete l j)
-      (λ same. subst (λ (x : ℕ). Way p.own.buffers (marked now me x) me x q.client s.client) (sym same)
-      (way_still p.own.buffers (marked now me j) (marked now me j) me j q.client tl.before.client q.client s.client (λ x lx. refl) refl
+      (λ same. subst (λ (x : ℕ). Way p.own.buffers (mark_in_mail now me x) me x q.client s.client) (sym same)
+      (way_still p.own.buffers (mark_in_mail now me j) (mark_in_mail now me j) me j q.client tl.before.client q.client s.client (λ x lx. refl) refl
       (still (λ (x : P). got x.client) places me p q refl l s tl) (way_here tl.before (subst (λ (x : ℕ). get_elem? places x ≡ some tl.before) same tl.at))))
-      (λ other. way_still p.own.buffers (marked m me l) (marked now me l) me l p.client tl.before.client q.client s.client (λ x lx. marked_else me l (λ _. other) x)
+      (λ other. way_still p.own.buffers (mark_in_mail m me l) (mark_in_mail now me l) me l p.client tl.before.client q.client s.client (λ x lx. marked_else me l (λ _. other) x)
       (λ t. (posted_there l other t, letter_in p.client))
       (still (λ (x : P). got x.client) places me p q refl l s tl) (w.client.ways me l p tl.before w.here tl.at))
 
@@ -337,7 +337,7 @@ module _ (p : P) (k j : ℕ) (lk : k < p.own.buffers) (lj : j < p.own.federates)
     granting = let old = (mine p m places w now deed).granting in record { lawful = old.lawful; below = old.below; within = old.within; wish = old.wish; asked = old.asked };
     sends = sends;
     ways = ways_from places me p q (WayBetween now) way_me (λ i l r s other at tl.
-        way_still r.own.buffers (marked m i l) (marked now i l) i l r.client tl.before.client r.client s.client (λ x lx. marked_else i l (λ a. absurd (other a)) x) refl
+        way_still r.own.buffers (mark_in_mail m i l) (mark_in_mail now i l) i l r.client tl.before.client r.client s.client (λ x lx. marked_else i l (λ a. absurd (other a)) x) refl
         (still (λ (x : P). got x.client) places me p q refl l s tl) (w.client.ways i l r tl.before at tl.at));
     rounds = rounds;
   })

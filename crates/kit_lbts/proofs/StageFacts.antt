@@ -13,7 +13,7 @@ use Rattle.kit_lbts.specs.declared.view.Scheme.{Scheme}
 use Rattle.kit_lbts.specs.declared.view.Scheme.TheVariants.{Flat, Butterfly}
 use Rattle.kit_lbts.specs.declared.view.LbtsView.{LbtsView}
 use Rattle.kit_lbts.specs.Promises.{ledgers_of}
-use Rattle.kit_lbts.specs.Reduction.{back_stage, has_outer, is_outer, needed, published_share, publishes, share_stage, sources, takes_in, value_at}
+use Rattle.kit_lbts.specs.Reduction.{back_stage, has_outer, is_outer, shares_needed, published_share, publishes, share_stage, sources, takes_in, value_at}
 use Rattle.kit_lbts.specs.Registers.{IsKnown, IsPlace, Learnt, shares_at}
 use Rattle.kit_lbts.specs.Progress.{own_share}
 use Rattle.kit_lbts.proofs.Covering.{TakesFirst, first_covers}
@@ -56,12 +56,12 @@ is_stage Flat n x stage early does = absurd (omega (arith, early, eqb-true stage
 is_stage Butterfly n x stage early does = stage_is n x stage early does
 
 -- the places that it needs for that take in the block of the stage
-pub needed_covers : (scheme : Scheme) (n x stage i : ℕ) → x < n → n ≤ 16 → stage < 4 → publishes scheme n x stage ≡ true → takes_in n x stage i ≡ true → (i ≡ x) ⊎ TakesFirst n i (sources scheme n x) (needed scheme n x stage)
+pub needed_covers : (scheme : Scheme) (n x stage i : ℕ) → x < n → n ≤ 16 → stage < 4 → publishes scheme n x stage ≡ true → takes_in n x stage i ≡ true → (i ≡ x) ⊎ TakesFirst n i (sources scheme n x) (shares_needed scheme n x stage)
 needed_covers Flat n x stage i lt few early does takes = absurd (omega (arith, early, eqb-true stage share_stage does))
 needed_covers Butterfly n x stage i lt few early does takes =
     let h = stage_is n x stage early does in
     let block : in_block n stage x i ≡ true = sym (takes_in_stage n x stage i (λ e. omega (arith, e, early)) (λ e. omega (arith, e, early))) ∙ takes in
-    let count : needed Butterfly n x stage ≡ stage + shift (has_outer n x) =
+    let count : shares_needed Butterfly n x stage ≡ stage + shift (has_outer n x) =
     needs (stage == share_stage) (stage == back_stage) (length (sources Butterfly n x)) (shift (has_outer n x)) (ne_eqb stage share_stage (λ e. omega (arith, e, early))) (ne_eqb stage back_stage (λ e. omega (arith, e, early))) in
     elim (first_covers n x i (has_outer n x) (omega arith) few h.within refl stage h.has block) [
       | inl e ↦ inl e
@@ -93,7 +93,7 @@ module _ (places : List (Place LbtsView)) (j : ℕ) (p : Place LbtsView) (at : g
       omega (arith, own)
 
   -- who has taken in what a stage needs knows it, where it has room in a word
-  pub stage_known : (stage : ℕ) → stage < 4 → publishes p.client.scheme (length places) j stage ≡ true → needed p.client.scheme (length places) j stage ≤ length p.client.taken
+  pub stage_known : (stage : ℕ) → stage < 4 → publishes p.client.scheme (length places) j stage ≡ true → shares_needed p.client.scheme (length places) j stage ≤ length p.client.taken
       → ((owner stage k : ℕ) → IsPlace (length places) owner stage → ((i : ℕ) → i < length places → takes_in (length places) owner stage i ≡ true → HasContributed (ledgers_of places i) k)
       → FitsWord (value_at (length places) (shares_at (ledgers_of places) k) owner stage))
       → IsKnown (length places) (ledgers_of places) j stage (length p.client.results) (published_share p.client.scheme (length places) j (own_share p.client) p.client.taken stage)

@@ -36,7 +36,7 @@ use Rattle.kit_lbts.specs.Views.{is_new, time_of}
 use Rattle.kit_lbts.specs.Promises.{added_of, ledger_of}
 use Rattle.kit_lbts.specs.Letters.{Letters}
 use Rattle.kit_lbts.specs.Seats.{Granting, Sends, TakeBack, left_of, most_sends}
-use Rattle.kit_lbts.specs.Ways.{Way, marked}
+use Rattle.kit_lbts.specs.Ways.{Way, mark_in_mail}
 use Rattle.kit_lbts.specs.Progress.{view_when_ready, view_after_start}
 use Rattle.kit_lbts.specs.Rule.{LbtsRule, FederateRule, lbts_rule}
 use Rattle.kit_parts.proofs.Among.{among_contains, contains_among}
@@ -224,8 +224,8 @@ module _ (p : P) (fresh : is_new p.client.request ≡ true) (few : length (view_
     sends = sends;
     ways = λ i j r s ti tj.
         let b = still (λ (x : P). x.own.buffers) places me p q refl i r ti in
-        subst (λ (n : ℕ). Way n (marked m i j) i j r.client s.client) (sym b)
-        (way_still ti.before.own.buffers (marked m i j) (marked m i j) i j ti.before.client tj.before.client r.client s.client (λ x lx. refl)
+        subst (λ (n : ℕ). Way n (mark_in_mail m i j) i j r.client s.client) (sym b)
+        (way_still ti.before.own.buffers (mark_in_mail m i j) (mark_in_mail m i j) i j ti.before.client tj.before.client r.client s.client (λ x lx. refl)
         (still (λ (x : P). sent j x.client) places me p q refl i r ti) (still (λ (x : P). got x.client) places me p q refl j s tj) (w.client.ways i j ti.before tj.before ti.at tj.at));
     rounds = rises_keep_rounds places me p q w.here w.client.rounds rises;
   })).client

@@ -20,14 +20,15 @@ use Rattle.kit_model.specs.Shares.{FitsWord, share_word}
 use Rattle.kit_rounds.specs.Ledgers.{Ledger}
 use Rattle.kit_lbts.specs.declared.view.LbtsView.{LbtsView}
 use Rattle.kit_lbts.specs.Promises.{ledgers_of, result_at}
-use Rattle.kit_lbts.specs.Reduction.{back_stage, clock_of, needed, published_share, publishes, reg_of, share_stage}
+use Rattle.kit_lbts.specs.Reduction.{back_stage, shares_needed, published_share, publishes, reg_of, share_stage}
+use Rattle.kit_ground.specs.Layout.{clock_of}
 use Rattle.kit_lbts.specs.Registers.{IsKnown, IsPlace, ShowsRound, Registers, word_at}
 use Rattle.kit_lbts.specs.Progress.{view_after_close, view_after_contribution, view_after_grant, own_share, view_after}
 use Rattle.kit_lbts.specs.LedgerLaws.{ready_place}
 use Rattle.kit_lbts.specs.Letters.{Letters}
 use Rattle.kit_lbts.specs.Rule.{LbtsRule, FederateRule, lbts_rule}
 use Rattle.kit_lbts.specs.PublishLaws.{BacksKeep, ValuesKeep}
-use Rattle.kit_lbts.specs.Ways.{Way, marked}
+use Rattle.kit_lbts.specs.Ways.{Way, mark_in_mail}
 use Rattle.kit_lbts.proofs.Changes.{ChangedAt, still}
 use Rattle.kit_lbts.proofs.ContributionSteps.{shown_as}
 use Rattle.kit_lbts.proofs.Fitting.{value_fits}
@@ -131,8 +132,8 @@ module _ (p : P) (m : Memory) (places : List P) (w : World lbts_rule p m places)
     sends = let old = mine.sends in record { own = old.own; numbered = old.numbered; next = old.next; timed = old.timed; takes_back = old.takes_back; waiting = old.waiting; late = old.late; transported = old.transported; behind = old.behind; once = old.once; each = old.each; receivers = old.receivers; coloured = old.coloured; few = old.few; new = old.new };
     ways = λ i j x s ti tj.
         let b = still (λ (y : P). y.own.buffers) places me p q refl i x ti in
-        subst (λ (y : ℕ). Way y (marked now i j) i j x.client s.client) (sym b)
-        (way_still ti.before.own.buffers (marked m i j) (marked now i j) i j ti.before.client tj.before.client x.client s.client (λ y ly. refl)
+        subst (λ (y : ℕ). Way y (mark_in_mail now i j) i j x.client s.client) (sym b)
+        (way_still ti.before.own.buffers (mark_in_mail m i j) (mark_in_mail now i j) i j ti.before.client tj.before.client x.client s.client (λ y ly. refl)
         (still (λ (y : P). sent j y.client) places me p q refl i x ti) (still (λ (y : P). got y.client) places me p q refl j s tj) (w.client.ways i j ti.before tj.before ti.at tj.at));
     rounds = rises_keep_rounds places me p q w.here w.client.rounds (record { rises = omega arith; is = refl });
   }
@@ -175,7 +176,7 @@ values_keep p stage early does under has m places w = record {
       let many : p.own.federates ≡ length places = (w.floor.each p.own.number p w.here).federates in
       let mine = w.client.each p.own.number p w.here in
       let way = way_is p.client under in
-      let known = subst (λ (n : ℕ). publishes p.client.scheme n p.own.number stage ≡ true → needed p.client.scheme n p.own.number stage ≤ length p.client.taken
+      let known = subst (λ (n : ℕ). publishes p.client.scheme n p.own.number stage ≡ true → shares_needed p.client.scheme n p.own.number stage ≤ length p.client.taken
       → IsKnown (length places) (ledgers_of places) p.own.number stage (length p.client.results) (published_share p.client.scheme n p.own.number (own_share p.client) p.client.taken stage))
       (sym many) (λ d h. stage_known places p.own.number p w.here w.floor.few mine.learnt way stage early d h (value_fits p m places w)) does has in
       publish p m places w stage (length p.client.results) (published_share p.client.scheme p.own.federates p.own.number (own_share p.client) p.client.taken stage)

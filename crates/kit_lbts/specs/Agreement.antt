@@ -17,10 +17,10 @@ use Rattle.kit_rules.specs.Simulation.{Block, Seat, block, lines_of}
 use Rattle.kit_rules.specs.Step.{opening_state}
 use Rattle.kit_lbts.specs.declared.view.Filled.{Filled}
 use Rattle.kit_lbts.specs.declared.view.LbtsView.{LbtsView}
-use Rattle.kit_lbts.specs.Views.{delivered, entries_of, is_empty, received, time_of}
+use Rattle.kit_lbts.specs.Views.{messages_delivered, entries_of, is_empty, messages_received, time_of}
 use Rattle.kit_lbts.specs.Letters.{letter_in}
 use Rattle.kit_lbts.specs.Seats.{left_of}
-use Rattle.kit_lbts.specs.Ways.{copies_on_way, marked}
+use Rattle.kit_lbts.specs.Ways.{copies_on_way, mark_in_mail}
 use Rattle.kit_lbts.specs.Rule.{LbtsRule}
 
 -- the grants of a journal, each with what was delivered since the one before; first these were delivered
@@ -35,7 +35,7 @@ blocks_in j v = blocks_from j [] (entries_of v)
 
 -- what the federate has come to, as in the simulation
 abbrev pub seat_of : Request → LbtsView → Seat
-seat_of r v = record { now = time_of v; request = r; state = v.state; got = delivered v }
+seat_of r v = record { now = time_of v; request = r; state = v.state; got = messages_delivered v }
 
 -- the deliveries and grants of its journal are whole blocks, and those are the first of its part; and it has come
 -- to what the start's rules and these blocks lead to
@@ -64,7 +64,7 @@ done_of None done = None
 done_of (Some r) done = Some done
 
 abbrev pub progress_of : ℕ → LbtsView → Standing
-progress_of j v = record { done = done_of v.request (blocks_in j v); waits = not (is_empty v.outbox); received = received v }
+progress_of j v = record { done = done_of v.request (blocks_in j v); waits = not (is_empty v.outbox); received = messages_received v }
 
 -- the messages of b buffers with these letters, each as often as copies of it are on their way
 abbrev pub messages_on_way : (ℕ → Filled) → (ℕ → ℕ) → ℕ → List Message
@@ -82,7 +82,7 @@ progress_at p places j = progress_of j (place_at p places j).client
 abbrev pub transit_at : Memory → Place LbtsView → List (Place LbtsView) → ℕ → ℕ → List Message
 transit_at m p places j i =
     let sender = place_at p places j in
-    messages_on_way (letter_in sender.client) (copies_on_way (marked m j i) j (place_at p places i).client.in_hand) sender.own.buffers
+    messages_on_way (letter_in sender.client) (copies_on_way (mark_in_mail m j i) j (place_at p places i).client.in_hand) sender.own.buffers
 
 -- what j has still to post to i
 abbrev pub waiting_at : Place LbtsView → List (Place LbtsView) → ℕ → ℕ → List Message

@@ -17,7 +17,7 @@ use Rattle.kit_rules.specs.Federation.{IsFederation}
 use Rattle.kit_model.specs.Journals.{lines_told}
 use Rattle.kit_lbts.specs.declared.lbts.Opening.{Opening}
 use Rattle.kit_lbts.specs.declared.view.LbtsView.{LbtsView}
-use Rattle.kit_lbts.specs.Views.{delivered, due_of, entries_of, time_of}
+use Rattle.kit_lbts.specs.Views.{messages_delivered, due_of, entries_of, time_of}
 use Rattle.kit_lbts.specs.Letters.{letter_in}
 use Rattle.kit_lbts.specs.Promises.{bound_of}
 use Rattle.kit_lbts.specs.Seats.{most_sends}
@@ -43,7 +43,7 @@ pub record TellsTheSame (v u : LbtsView) : Type 0 where
   pub lines : (j : ℕ) → lines_told j (entries_of u) ≡ lines_told j (entries_of v)
   pub blocks : (j : ℕ) → blocks_in j u ≡ blocks_in j v
   pub time : time_of u ≡ time_of v
-  pub delivered : delivered u ≡ delivered v
+  pub delivered : messages_delivered u ≡ messages_delivered v
 
 -- keeps agreement
 abbrev pub AsidesAgree : Type 0

@@ -20,7 +20,7 @@ use mathlib.Core.Option.{some}
 use lib.ListN.{get_elem?}
 use Rattle.kit_rounds.specs.Ledgers.{last_run}
 use Rattle.kit_lbts.specs.declared.view.LbtsView.{LbtsView}
-use Rattle.kit_lbts.specs.Views.{has_receiver, is_in_hand, is_spent, received, time_of}
+use Rattle.kit_lbts.specs.Views.{has_receiver, is_in_hand, is_spent, messages_received, time_of}
 use Rattle.kit_lbts.specs.Promises.{bound_of}
 use Rattle.kit_lbts.specs.Ways.{letters_posted_to}
 use Rattle.kit_lbts.specs.Seats.{most_sends, waits_in}
@@ -84,7 +84,7 @@ pub record IsTold (p : Place LbtsView) (i : ℕ) (message : Message) : Type 0 wh
   -- its number is one that a federate has, and so is the one that a Retraction names
   pub number : (1 ≤ message.number) × (message.number ≤ most_sends)
   pub named : is_event message.kind ≡ false → (1 ≤ message.value) × (message.value ≤ most_sends)
-  pub unheard : list_any (is_numbered i message.number) (received p.client) ≡ false
+  pub unheard : list_any (is_numbered i message.number) (messages_received p.client) ≡ false
   pub new : entry_of i message.number p.client.queue ≡ None
   pub posted : (m : Memory) × (places : List (Place LbtsView)) × (q : Place LbtsView) × World lbts_rule p m places × (get_elem? places i ≡ some q)
       × ((colour : ℕ) × Contains (letters_posted_to p.own.number q.client) (record { message = message; colour = colour }))

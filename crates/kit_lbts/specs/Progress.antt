@@ -127,8 +127,8 @@ abbrev pub taken_in : Kind → ℕ → ℕ → Message → LbtsView → LbtsView
 taken_in Event i k m v = event_in i k m v
 taken_in Retraction i k m v = retraction_in i k m v
 
-abbrev pub noted : JournalEntry → Noted
-noted e = record { entry = e; colour = 0 }
+abbrev pub note_of : JournalEntry → Noted
+note_of e = record { entry = e; colour = 0 }
 
 -- the body of a copy was read: the copy is received
 abbrev pub received_whole : ℕ → ℕ → ℕ → LbtsView → LbtsView
@@ -169,7 +169,7 @@ view_after_grant j d v =
     let due = due_in d v.queue in
     let s = after_block v.federation j d v.state due in
     record v {
-      journal = v.journal ++ map (λ m. noted (Delivered d m)) due ++ noted (Granted d) ∷ [];
+      journal = v.journal ++ map (λ m. note_of (Delivered d m)) due ++ note_of (Granted d) ∷ [];
       state = s;
       request = if nat_lt d v.federation.end then Some (request_at s.wish d v.federation.end) else v.request;
       outbox = v.outbox ++ filter (is_transported v.federation) (drop (length v.state.sends) s.sends);

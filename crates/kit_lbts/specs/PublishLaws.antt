@@ -9,7 +9,8 @@ use Rattle.kit_queue.specs.declared.entry.Entry.{Entry}
 use Rattle.kit_lbts.specs.declared.view.LbtsView.{LbtsView}
 use Rattle.kit_lbts.specs.Views.{due_of, time_of}
 use Rattle.kit_lbts.specs.Promises.{bound_of, next_contribution, result_at}
-use Rattle.kit_lbts.specs.Reduction.{back_stage, clock_of, needed, published_share, publishes, reg_of, share_stage}
+use Rattle.kit_lbts.specs.Reduction.{back_stage, shares_needed, published_share, publishes, reg_of, share_stage}
+use Rattle.kit_ground.specs.Layout.{clock_of}
 use Rattle.kit_lbts.specs.Progress.{view_after_grant, is_under_way, own_share, view_after, view_when_ready}
 use Rattle.kit_lbts.specs.LedgerLaws.{ready_place}
 use Rattle.kit_lbts.specs.Seats.{most_sends}
@@ -31,7 +32,7 @@ ContributionsKeep rule = (p : Place LbtsView) → length p.client.contributions 
 -- a value on the way is published: what it needs was taken in
 abbrev pub ValuesKeep : Rule LbtsView → Type 0
 ValuesKeep rule = (p : Place LbtsView) (stage : ℕ) → stage < share_stage → publishes p.client.scheme p.own.federates p.own.number stage ≡ true
-    → is_under_way p.client ≡ true → needed p.client.scheme p.own.federates p.own.number stage ≤ length p.client.taken
+    → is_under_way p.client ≡ true → shares_needed p.client.scheme p.own.federates p.own.number stage ≤ length p.client.taken
     → let round = length p.client.contributions in
     let share = published_share p.client.scheme p.own.federates p.own.number (own_share p.client) p.client.taken stage in
     let r = reg_of p.own.number stage round in

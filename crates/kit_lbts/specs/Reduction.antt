@@ -21,9 +21,6 @@ back_stage = 5
 abbrev pub reg_of : ℕ → ℕ → ℕ → Reg
 reg_of owner stage round = record { owner = owner; slot = round % 2 * 6 + stage }
 
-abbrev pub clock_of : ℕ → Reg
-clock_of owner = record { owner = owner; slot = 12 }
-
 -- what it stands for, by what each contributed
 abbrev pub value_at : ℕ → (ℕ → Share) → ℕ → ℕ → Share
 value_at n share owner stage =
@@ -78,11 +75,11 @@ share_with_taken Flat n x own taken = fold share_sum own taken
 share_with_taken Butterfly n x own taken = if is_outer n x then handed_back own taken else fold share_sum own taken
 
 -- how many are taken in before a stage's value is there: none for the own share, all for the result
-abbrev pub needed : Scheme → ℕ → ℕ → ℕ → ℕ
-needed scheme n x stage =
+abbrev pub shares_needed : Scheme → ℕ → ℕ → ℕ → ℕ
+shares_needed scheme n x stage =
     if stage == share_stage then 0
     else if stage == back_stage then length (sources scheme n x) else stage + (if has_outer n x then 1 else 0)
 
 -- the share that x publishes at a place
 abbrev pub published_share : Scheme → ℕ → ℕ → Share → List Share → ℕ → Share
-published_share scheme n x own taken stage = share_with_taken scheme n x own (take (needed scheme n x stage) taken)
+published_share scheme n x own taken stage = share_with_taken scheme n x own (take (shares_needed scheme n x stage) taken)

@@ -6,7 +6,7 @@ use Rattle.kit_rounds.specs.Ledgers.{Ledger, at_round}
 use Rattle.kit_rounds.specs.Rounds.{HasContributed}
 use Rattle.kit_lbts.specs.declared.view.Scheme.{Scheme}
 use Rattle.kit_lbts.specs.Promises.{unknown}
-use Rattle.kit_lbts.specs.Reduction.{value_at, publishes, sources, source, share_with_taken, needed, published_share}
+use Rattle.kit_lbts.specs.Reduction.{value_at, publishes, sources, source, share_with_taken, shares_needed, published_share}
 use Rattle.kit_lbts.specs.Registers.{IsPlace, IsKnown}
 
 -- these are the values of the places that are taken in first
@@ -18,7 +18,7 @@ pub record AreValues (scheme : Scheme) (n x : ℕ) (share : ℕ → Share) (take
 -- who has taken in what a place needs has its value
 abbrev pub PublishedAreValues : Type 0
 PublishedAreValues = (scheme : Scheme) (n x stage : ℕ) (share : ℕ → Share) (taken : List Share) → x < n → n ≤ 16 → AreValues scheme n x share taken
-    → publishes scheme n x stage ≡ true → needed scheme n x stage ≤ length taken → published_share scheme n x (share x) taken stage ≡ value_at n share x stage
+    → publishes scheme n x stage ≡ true → shares_needed scheme n x stage ≤ length taken → published_share scheme n x (share x) taken stage ≡ value_at n share x stage
 
 -- and who has taken in all has the result
 abbrev pub AllIsResult : Type 0

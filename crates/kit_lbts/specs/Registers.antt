@@ -12,7 +12,8 @@ use Rattle.kit_rounds.specs.Rounds.{HasContributed, result_of}
 use Rattle.kit_lbts.specs.declared.view.LbtsView.{LbtsView}
 use Rattle.kit_lbts.specs.Views.{time_of}
 use Rattle.kit_lbts.specs.Promises.{unknown, result_at}
-use Rattle.kit_lbts.specs.Reduction.{share_stage, reg_of, clock_of, value_at, takes_in, publishes, sources, source}
+use Rattle.kit_lbts.specs.Reduction.{share_stage, reg_of, value_at, takes_in, publishes, sources, source}
+use Rattle.kit_ground.specs.Layout.{clock_of}
 
 -- what each contributed to a round, by the number of rounds before it
 abbrev pub shares_at : (ℕ → Ledger) → ℕ → ℕ → Share

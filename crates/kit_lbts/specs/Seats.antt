@@ -21,7 +21,7 @@ use Rattle.kit_lbts.specs.declared.view.InHand.{InHand}
 use Rattle.kit_lbts.specs.declared.view.Posting.{Posting}
 use Rattle.kit_lbts.specs.declared.view.Spent.{Spent}
 use Rattle.kit_lbts.specs.declared.view.LbtsView.{LbtsView}
-use Rattle.kit_lbts.specs.Views.{entries_of, time_of, received, delivered, has_receiver, is_in_hand, is_spent, is_orphan, transported_of}
+use Rattle.kit_lbts.specs.Views.{entries_of, time_of, messages_received, messages_delivered, has_receiver, is_in_hand, is_spent, is_orphan, transported_of}
 use Rattle.kit_lbts.specs.Promises.{bound_of, added_of}
 use Rattle.kit_lbts.specs.Ways.{letters_posted_to}
 use Rattle.kit_lbts.specs.declared.view.Filled.{Filled}
@@ -48,7 +48,7 @@ pub record Holdings (p : Place LbtsView) : Type 0 where
 pub record Queue (j : ℕ) (p : Place LbtsView) : Type 0 where
   pub ordered : IsInOrder p.client.queue
   pub apart : AreNumberedApart p.client.queue
-  pub is : messages_of p.client.queue ≡ in_order (pending_messages p.client.federation j (delivered p.client) (received p.client))
+  pub is : messages_of p.client.queue ≡ in_order (pending_messages p.client.federation j (messages_delivered p.client) (messages_received p.client))
   pub ahead : All (λ (e : Entry). time_of p.client < e.message.time) p.client.queue
   pub settled : All (λ (e : Entry). e.buffer ≡ None → e.message.time < bound_of p.client) p.client.queue
 
@@ -66,9 +66,9 @@ is_orphaned i n ms = list_any (names i n) ms && not (list_any (is_event_of i n) 
 
 -- its orphans are the Events whose Retraction it received before them, and what was delivered to it was received
 pub record Receiving (v : LbtsView) : Type 0 where
-  pub orphans : (i n : ℕ) → list_any (is_orphan i n) v.orphans ≡ is_orphaned i n (received v)
-  pub came : All (Contains (received v)) (delivered v)
-  pub past : All (λ (m : Message). m.time ≤ time_of v) (delivered v)
+  pub orphans : (i n : ℕ) → list_any (is_orphan i n) v.orphans ≡ is_orphaned i n (messages_received v)
+  pub came : All (Contains (messages_received v)) (messages_delivered v)
+  pub past : All (λ (m : Message). m.time ≤ time_of v) (messages_delivered v)
 
 -- its journal is lawful, its grants are below the bound, and its request is that of its wish
 pub record Granting (p : Place LbtsView) : Type 0 where

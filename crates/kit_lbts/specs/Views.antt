@@ -35,15 +35,15 @@ receipts_in ns = filter_map (λ (e : Noted). receipt_of e.entry e.colour) ns
 abbrev pub receipts : LbtsView → List Filled
 receipts v = receipts_in v.journal
 
-abbrev pub received : LbtsView → List Message
-received v = map (λ (f : Filled). f.message) (receipts v)
+abbrev pub messages_received : LbtsView → List Message
+messages_received v = map (λ (f : Filled). f.message) (receipts v)
 
 abbrev pub delivery_of : JournalEntry → Option Message
 delivery_of (Delivered granted m) = Some m
 delivery_of _ = None
 
-abbrev pub delivered : LbtsView → List Message
-delivered v = filter_map delivery_of (entries_of v)
+abbrev pub messages_delivered : LbtsView → List Message
+messages_delivered v = filter_map delivery_of (entries_of v)
 
 -- when its request is due, by what waits in its queue
 abbrev pub due_by : Option Request → List Message → ℕ

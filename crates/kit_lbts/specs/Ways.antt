@@ -24,8 +24,8 @@ abbrev pub letters_received_from : ℕ → LbtsView → List Filled
 letters_received_from i v = filter (λ (f : Filled). f.message.sender == i) (receipts v)
 
 -- 1 where the bit of the buffer k of i stands in the mail of j, otherwise 0
-abbrev pub marked : Memory → ℕ → ℕ → ℕ → ℕ
-marked m i j k = bit_at (m (Mail j i (k / 64))) (k % 64)
+abbrev pub mark_in_mail : Memory → ℕ → ℕ → ℕ → ℕ
+mark_in_mail m i j k = bit_at (m (Mail j i (k / 64))) (k % 64)
 
 -- how many copies of the buffer k of i are on their way: marked in the mail, or in the receiver's hand
 abbrev pub copies_on_way : (ℕ → ℕ) → ℕ → List InHand → ℕ → ℕ
@@ -44,4 +44,4 @@ pub record Way (b : ℕ) (mail : ℕ → ℕ) (i j : ℕ) (v u : LbtsView) : Typ
   pub lies : All (λ (e : Entry). e.message.sender ≡ i → IfSome e.buffer (λ k. (letter_in v k).message ≡ e.message)) u.queue
 
 abbrev pub WayBetween : Memory → ℕ → ℕ → Place LbtsView → Place LbtsView → Type 0
-WayBetween m i j p q = Way p.own.buffers (marked m i j) i j p.client q.client
+WayBetween m i j p q = Way p.own.buffers (mark_in_mail m i j) i j p.client q.client

@@ -34,10 +34,10 @@ use Rattle.kit_lbts.specs.Agreement.{AgreeingRule, agreeing_rule, blocks_in, sea
 use Rattle.kit_lbts.specs.AgreementLaws.{IsComplete}
 use Rattle.kit_lbts.specs.Letters.{IsLetter, IsSending, letter_in}
 use Rattle.kit_lbts.specs.Promises.{added_of, bound_of, ledgers_of}
-use Rattle.kit_lbts.specs.Reduction.{clock_of}
+use Rattle.kit_ground.specs.Layout.{clock_of}
 use Rattle.kit_lbts.specs.Registers.{Learnt, Registers}
 use Rattle.kit_lbts.specs.Seats.{AreChargedOnce, is_orphaned, left_of}
-use Rattle.kit_lbts.specs.Views.{delivered, entries_of, has_receiver, is_orphan, received, time_of, transported_of}
+use Rattle.kit_lbts.specs.Views.{messages_delivered, entries_of, has_receiver, is_orphan, messages_received, time_of, transported_of}
 use Rattle.kit_lbts.specs.Ways.{WayBetween, letters_posted_to}
 
 -- what holds of all words and places that the rule holds of
@@ -60,7 +60,7 @@ BlocksAreAFront = OfEachFederate (λ m j p. (lines_told j (entries_of p.client) 
 
 -- what it delivered it had received
 abbrev pub DeliveredWasReceived : Type 0
-DeliveredWasReceived = OfEachFederate (λ m j p. All (Contains (received p.client)) (delivered p.client))
+DeliveredWasReceived = OfEachFederate (λ m j p. All (Contains (messages_received p.client)) (messages_delivered p.client))
 
 -- it stands where the simulation has it after so many grants, by which it has made these blocks; before its start it
 -- stands at its opening
@@ -89,7 +89,7 @@ WaitingIsLate = OfEachFederate (λ m j p. All (λ (x : Message). time_of p.clien
 
 -- its queue is what is pending of what it received
 abbrev pub QueuesArePending : Type 0
-QueuesArePending = OfEachFederate (λ m j p. messages_of p.client.queue ≡ in_order (pending_messages p.client.federation j (delivered p.client) (received p.client)))
+QueuesArePending = OfEachFederate (λ m j p. messages_of p.client.queue ≡ in_order (pending_messages p.client.federation j (messages_delivered p.client) (messages_received p.client)))
 
 -- an entry with a buffer holds that, and its message lies there
 abbrev pub EntriesLieInBuffers : Type 0
@@ -102,7 +102,7 @@ SettledAreBelow = OfEachFederate (λ m j p. All (λ (e : Entry). e.buffer ≡ No
 
 -- its orphans are the Events whose Retraction it received, and not the Event
 abbrev pub OrphansAreRetracted : Type 0
-OrphansAreRetracted = OfEachFederate (λ m j p. (i n : ℕ) → list_any (is_orphan i n) p.client.orphans ≡ is_orphaned i n (received p.client))
+OrphansAreRetracted = OfEachFederate (λ m j p. (i n : ℕ) → list_any (is_orphan i n) p.client.orphans ≡ is_orphaned i n (messages_received p.client))
 
 -- each copy that was posted is received, in hand or in the mail, in one of these places; and a head that was read is
 -- that of the copy

@@ -22,7 +22,7 @@ use Rattle.kit_lbts.specs.AgreementLaws.{MayBeGranted}
 use Rattle.kit_lbts.specs.Progress.{due_in, view_after, view_after_grant}
 use Rattle.kit_lbts.specs.Promises.{bound_of}
 use Rattle.kit_lbts.specs.PublishLaws.{ShowsLast}
-use Rattle.kit_lbts.specs.Reduction.{clock_of}
+use Rattle.kit_ground.specs.Layout.{clock_of}
 use Rattle.kit_lbts.specs.SeatLaws.{IsInWorld}
 use Rattle.kit_lbts.specs.Seats.{most_sends}
 use Rattle.kit_lbts.specs.Views.{due_of, entries_of, time_of}

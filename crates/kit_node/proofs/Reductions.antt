@@ -15,7 +15,7 @@ use Rattle.kit_lbts.specs.LedgerLaws.{ready_place}
 use Rattle.kit_lbts.specs.Progress.{is_under_way}
 use Rattle.kit_lbts.specs.Promises.{bound_in, bound_of}
 use Rattle.kit_lbts.specs.PublishLaws.{ShowsLast}
-use Rattle.kit_lbts.specs.Reduction.{needed, publishes, reg_of, sources}
+use Rattle.kit_lbts.specs.Reduction.{shares_needed, publishes, reg_of, sources}
 use Rattle.kit_lbts.specs.SeatLaws.{IsInWorld}
 use Rattle.kit_fly.specs.Rounds.{FollowsRound, LeavesSeat, RoundState, SlotsShowRound}
 use Rattle.kit_fly.proofs.Polls.{left_here, left_on}
@@ -23,7 +23,7 @@ use Rattle.kit_node.specs.declared.node.Node.{Node}
 use Rattle.kit_node.specs.declared.rounds.Rounds.{Rounds}
 use Rattle.kit_node.specs.Fields.{closed_with}
 use Rattle.kit_node.specs.Mirrors.{HasUnderWay, Mirrors, Shown}
-use Rattle.kit_node.specs.Reducing.{HasLearnt, HasOpened, HasPolled, HasReduced, IsAwaited, IsClosed, IsPastOpening, IsStillOpen, ShowsReached, coloured, reached}
+use Rattle.kit_node.specs.Reducing.{HasLearnt, HasOpened, HasPolled, HasReduced, IsAwaited, IsClosed, IsPastOpening, IsStillOpen, ShowsReached, coloured, rounds_reached}
 use Rattle.kit_node.specs.Turns.{SameNode}
 use Rattle.kit_node.proofs.MirrorFrames.{ready_same}
 use Rattle.kit_node.proofs.OpenedRounds as opened
@@ -54,8 +54,8 @@ pub round_shows : (scheme : Scheme) (k : RoundState) (q : P) → HasUnderWay sch
 round_shows scheme k q h on stage lt does enough some_ =
     let f = h.follows in
     let there : publishes scheme k.federates k.number stage ≡ true = (λ i. publishes (sym f.scheme_is i) (sym f.federates i) (sym f.number i) stage) ∙ does in
-    let same : needed scheme k.federates k.number stage ≡ needed q.client.scheme q.own.federates q.own.number stage = λ i. needed (sym f.scheme_is i) (sym f.federates i) (sym f.number i) stage in
-    let taken : reached q ≡ length q.client.taken = ap (λ (b : Bool). if b then length q.client.taken else length (sources q.client.scheme q.own.federates q.own.number)) on in
+    let same : shares_needed scheme k.federates k.number stage ≡ shares_needed q.client.scheme q.own.federates q.own.number stage = λ i. shares_needed (sym f.scheme_is i) (sym f.federates i) (sym f.number i) stage in
+    let taken : rounds_reached q ≡ length q.client.taken = ap (λ (b : Bool). if b then length q.client.taken else length (sources q.client.scheme q.own.federates q.own.number)) on in
     let many = (f.under_way h.more).taken in
     subst (λ (x : ℕ). Shows (slice_index q.own.shown (reg_of q.own.number stage x).slot) x) (sym f.round) (h.shown stage lt there (omega (arith, enough, same, taken, many)))
 

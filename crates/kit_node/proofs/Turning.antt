@@ -24,7 +24,7 @@ use Rattle.kit_lbts.specs.Promises.{added_of, bound_of}
 use Rattle.kit_lbts.specs.PublishLaws.{ShowsLast}
 use Rattle.kit_lbts.specs.SeatLaws.{IsInWorld}
 use Rattle.kit_lbts.specs.Seats.{waits_in}
-use Rattle.kit_lbts.specs.Views.{delivered, entries_of, received, time_of}
+use Rattle.kit_lbts.specs.Views.{messages_delivered, entries_of, messages_received, time_of}
 use Rattle.kit_lbts.proofs.Dues.{adds}
 use Rattle.kit_lbts.proofs.GrantAgreement.{without_agreement}
 use Rattle.kit_lbts.proofs.SeatFacts.{places_tell}
@@ -125,8 +125,8 @@ module _ (q : P) (w : IsInWorld q) (ended : time_of q.client ≡ q.client.federa
       by (e ∷ es) is ahead =
           let f = q.client.federation in
           let j = q.own.number in
-          let got = delivered q.client in
-          let came = received q.client in
+          let got = messages_delivered q.client in
+          let came = messages_received q.client in
           let m : Message = e.message in
           let has : Contains (queue_of f j got came) m = subst (λ (l : List Message). Contains l m) (ap messages_of (sym is) ∙ (places_tell q w).queue.is) (0, omega arith, refl) in
           let pending = (queue_is_received_law f j got came m has).1 in

@@ -17,7 +17,7 @@ use Rattle.kit_lbts.specs.declared.view.LbtsView.{LbtsView}
 use Rattle.kit_lbts.specs.AgreementLaws.{MayBeGranted}
 use Rattle.kit_lbts.specs.Progress.{view_after_grant, view_after, view_after_start}
 use Rattle.kit_lbts.specs.Promises.{bound_of}
-use Rattle.kit_lbts.specs.Reduction.{clock_of}
+use Rattle.kit_ground.specs.Layout.{clock_of}
 use Rattle.kit_lbts.specs.Seats.{most_sends}
 use Rattle.kit_lbts.specs.Views.{due_of}
 use Rattle.kit_node.specs.declared.ends.NodeEnd.{NodeEnd}

@@ -13,7 +13,7 @@ use Rattle.kit_lbts.specs.LedgerLaws.{ready_place}
 use Rattle.kit_lbts.specs.Progress.{is_under_way}
 use Rattle.kit_lbts.specs.Promises.{bound_of, least_with, promise_by}
 use Rattle.kit_lbts.specs.PublishLaws.{ShowsLast}
-use Rattle.kit_lbts.specs.Reduction.{needed, publishes, reg_of, source, sources}
+use Rattle.kit_lbts.specs.Reduction.{shares_needed, publishes, reg_of, source, sources}
 use Rattle.kit_lbts.specs.Views.{is_empty}
 use Rattle.kit_fly.specs.Rounds.{FollowsRound, LeavesSeat, SlotsShowRound}
 use Rattle.kit_fly.specs.Starts.{LooksNowhere, view_started}
@@ -113,13 +113,13 @@ pub record HasPolled {Q R : Type 0} (sh : Shown Q R) (found : Bool) (n n' : Node
   pub answer : IsStillOpen sh found n n' p q ⊎ IsClosed sh found n n' p q
 
 -- SLOTS. How many registers were taken in since the last contribution: all of them, once its round was closed
-abbrev pub reached : Seat → ℕ
-reached q = if is_under_way q.client then length q.client.taken else length (sources q.client.scheme q.own.federates q.own.number)
+abbrev pub rounds_reached : Seat → ℕ
+rounds_reached q = if is_under_way q.client then length q.client.taken else length (sources q.client.scheme q.own.federates q.own.number)
 
 -- each own slot of the parity of the last contribution's round that is published from these shows that round
 abbrev pub ShowsReached : Seat → Type 0
 ShowsReached q = (stage : ℕ) → stage < 6 → publishes q.client.scheme q.own.federates q.own.number stage ≡ true
-    → needed q.client.scheme q.own.federates q.own.number stage ≤ reached q
+    → shares_needed q.client.scheme q.own.federates q.own.number stage ≤ rounds_reached q
     → let round = length q.client.contributions in
     0 < round → Shows (slice_index q.own.shown (reg_of q.own.number stage round).slot) round
 

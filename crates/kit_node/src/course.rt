@@ -1,6 +1,7 @@
 //! A federate's rules, its logical time and its request to advance.
 
-ghost use Rattle.std.specs.Prelude.{◌≡◌, ◌+◌, ◌<◌, ◌≤◌, ◌++◌, nat_lt, length, take, drop, Some, None, OnOk, OnErr, if◌then◌else◌};
+ghost use Rattle.std.specs.Prelude.{◌≡◌, ◌+◌, ◌<◌, ◌≤◌, ◌++◌, nat_lt, length, take, drop, Some};
+ghost use Rattle.std.specs.Prelude.{None, OnOk, OnErr, if◌then◌else◌};
 ghost use Rattle.kit_rules.specs.Parts.{federate_at};
 ghost use Rattle.kit_rules.specs.Simulation.{request_at};
 ghost use Rattle.kit_rules.specs.Step.{opening_state, state_after};
@@ -33,7 +34,11 @@ pub(crate) fn lookahead_of(federation: &Federation, me: u8) -> Option<u64>
 impl Course {
     pub(crate) fn new(alloc: Global, federation: &Federation, me: u8) -> Course
         requires { me < length federation.now.federates }
-        ensures { result ≡ record { state = opening_state (federate_at federation.now me); now = 0; request = None } }
+        ensures { result ≡ record {
+          state = opening_state (federate_at federation.now me);
+          now = 0;
+          request = None;
+        } }
     {
         Course {
             state: FedState::new(alloc, federation, me),
@@ -54,11 +59,19 @@ impl Course {
     ) -> Result<(), ApplyEnd>
         requires federate { me < length federation.now.federates }
         requires time { time ≤ federation.now.end }
-        ensures state { OnOk result (self.new ≡ record self.old { state = state_after federation.now me trigger time value self.old.state }) }
-        ensures made { OnOk result (made.new.items ≡ made.old.items ++ drop (length self.old.state.sends) self.new.state.sends) }
-        ensures kept { take (length self.old.state.sends) self.new.state.sends ≡ self.old.state.sends }
-        ensures unchanged { OnErr result ((self.new ≡ self.old) × (made.new.items ≡ made.old.items)) }
-        ensures spent { result ≡ Err ApplyEnd.SendsSpent → 16385 < (state_after federation.now me trigger time value self.old.state).next }
+        ensures state { OnOk result (self.new
+            ≡ record self.old {
+              state = state_after federation.now me trigger time value
+                  self.old.state;
+            }) }
+        ensures made { OnOk result (made.new.items
+            ≡ made.old.items ++ drop (length self.old.state.sends) self.new.state.sends) }
+        ensures kept { take (length self.old.state.sends) self.new.state.sends
+            ≡ self.old.state.sends }
+        ensures unchanged { OnErr result
+            ((self.new ≡ self.old) × (made.new.items ≡ made.old.items)) }
+        ensures spent { result ≡ Err ApplyEnd.SendsSpent
+            → 16385 < (state_after federation.now me trigger time value self.old.state).next }
         ensures room { OnOk result (self.new.state.next ≤ 16385) }
     {
         apply(federation, me, &mut self.state, trigger, time, value, made)
@@ -67,7 +80,11 @@ impl Course {
     /// Takes a time for its own, and asks for the next one while that is below the end.
     pub(crate) fn stand_at(&mut self, time: u64, end: u64)
         requires { time ≤ 100000 }
-        ensures { self.new ≡ record self.old { now = time; request = if nat_lt time end then Some (request_at self.old.state.wish time end) else self.old.request } }
+        ensures { self.new ≡ record self.old {
+          now = time;
+          request = if nat_lt time end then Some
+              (request_at self.old.state.wish time end) else self.old.request;
+        } }
     {
         self.now = time;
         if time < end {

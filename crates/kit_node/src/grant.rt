@@ -1,6 +1,7 @@
 //! The grant.
 
-ghost use Rattle.std.specs.Prelude.{◌≡◌, ◌<◌, ◌≤◌, ◌++◌, ℕ, [], ◌∷◌, length, take, drop, IfSome, IfNone, OnOk, IfOk, IfErr};
+ghost use Rattle.std.specs.Prelude.{◌≡◌, ◌<◌, ◌≤◌, ◌++◌, ℕ, [], ◌∷◌, length, take, drop, IfSome};
+ghost use Rattle.std.specs.Prelude.{IfNone, OnOk, IfOk, IfErr};
 ghost use Rattle.kit_rules.specs.Simulation.{after_deliveries};
 ghost use Rattle.kit_lbts.specs.SeatLaws.{IsInWorld};
 ghost use Rattle.kit_node.specs.Granting.{IsRefusal, behind_due, block_entries, front_due};
@@ -28,13 +29,20 @@ fn deliver(
 ) -> Result<(), NodeEnd>
     requires federate { me < length federation.now.federates }
     requires time { due ≤ federation.now.end }
-    ensures state { OnOk result (course.new ≡ record course.old { state = after_deliveries federation.now me due course.old.state (message ∷ []) }) }
+    ensures state { OnOk result (course.new
+        ≡ record course.old {
+          state = after_deliveries federation.now me due course.old.state
+              (message ∷ []);
+        }) }
     ensures delivered { OnOk result (delivered.new.items ≡ delivered.old.items ++ message ∷ []) }
-    ensures made { OnOk result (made.new.items ≡ made.old.items ++ drop (length course.old.state.sends) course.new.state.sends) }
-    ensures kept { OnOk result (take (length course.old.state.sends) course.new.state.sends ≡ course.old.state.sends) }
+    ensures made { OnOk result (made.new.items
+        ≡ made.old.items ++ drop (length course.old.state.sends) course.new.state.sends) }
+    ensures kept { OnOk result (take (length course.old.state.sends) course.new.state.sends
+        ≡ course.old.state.sends) }
     ensures now { course.new.now ≡ course.old.now }
     ensures refused { IfErr result IsRefusal }
-    ensures spent { result ≡ Err NodeEnd.SendsSpent → 16385 < (after_deliveries federation.now me due course.old.state (message ∷ [])).next }
+    ensures spent { result ≡ Err NodeEnd.SendsSpent
+        → 16385 < (after_deliveries federation.now me due course.old.state (message ∷ [])).next }
 {
     delivered.push(message)?;
     let group = message.group;
@@ -62,15 +70,20 @@ fn deliver_all<Q: Order>(
     requires federate { me < length federation.now.federates }
     requires time { due ≤ federation.now.end }
     requires none { delivered.old.items ≡ [] }
-    ensures state { OnOk result (course.new.state ≡ after_deliveries federation.now me due course.old.state (front_due due (Q.entries queue.old))) }
+    ensures state { OnOk result (course.new.state
+        ≡ after_deliveries federation.now me due course.old.state
+        (front_due due (Q.entries queue.old))) }
     ensures now { course.new.now ≡ course.old.now }
     ensures request { OnOk result (course.new.request ≡ course.old.request) }
     ensures delivered { OnOk result (delivered.new.items ≡ front_due due (Q.entries queue.old)) }
     ensures queue { OnOk result (Q.entries queue.new ≡ behind_due due (Q.entries queue.old)) }
-    ensures made { OnOk result (made.new.items ≡ made.old.items ++ drop (length course.old.state.sends) course.new.state.sends) }
+    ensures made { OnOk result (made.new.items
+        ≡ made.old.items ++ drop (length course.old.state.sends) course.new.state.sends) }
     ensures longer { OnOk result (length course.old.state.sends ≤ length course.new.state.sends) }
     ensures refused { IfErr result IsRefusal }
-    ensures spent { result ≡ Err NodeEnd.SendsSpent → 16385 < (after_deliveries federation.now me due course.old.state (front_due due (Q.entries queue.old))).next }
+    ensures spent { result ≡ Err NodeEnd.SendsSpent
+        → 16385 < (after_deliveries federation.now me due course.old.state
+        (front_due due (Q.entries queue.old))).next }
 {
     while let Some(entry) = queue.pop_due(due) {
         deliver(federation, me, due, entry.message, course, delivered, made)?;
@@ -94,14 +107,15 @@ fn enter(journal: &mut Journal, due: &[Message], granted: u64)
 
 impl<Q: Order + Drop, R: Reduction + Drop> Node<Q, R> {
     ghost use Rattle.kit_node.specs.Mirrors.{Mirrors, shows};
-    ghost use Rattle.kit_node.specs.Granting.{HasGranted, HasRunBlock, IsGrantable, KeepsReport, SpendsAtGrant, SpendsInBlock};
+    ghost use Rattle.kit_node.specs.Granting.{HasGranted, HasRunBlock, IsGrantable, KeepsReport};
+    ghost use Rattle.kit_node.specs.Granting.{SpendsAtGrant, SpendsInBlock};
     ghost use Rattle.kit_node.specs.Mirrors.{IsReportOf};
     ghost use Rattle.kit_node.specs.Seats.{IsBelowEnd};
     ghost use Rattle.kit_node.specs.Settling.{IsSettled};
     ghost use Rattle.kit_node.specs.Turns.{SameNode};
 
-    /// Makes one grant where nothing waits in the outbox and the due time is below the known bound. It
-    /// says whether it did.
+    /// Makes one grant where nothing waits in the outbox and the due time is below the known bound.
+    /// It says whether it did.
     pub(crate) fn grant<G: Ground<Under = Lbts>>(
         &mut self,
         federation: &Federation,
@@ -109,17 +123,22 @@ impl<Q: Order + Drop, R: Reduction + Drop> Node<Q, R> {
     ) -> Result<bool, NodeEnd>
         requires world { IsInWorld (G.place ground.old) }
         requires federation { (G.place ground.old).client.federation ≡ federation.now }
-        requires mirrors { Mirrors (shows Q.entries R.scheme R.state) self.old (G.place ground.old) }
+        requires mirrors { Mirrors (shows Q.entries R.scheme R.state) self.old
+            (G.place ground.old) }
         requires settled { IsSettled (G.place ground.old).client }
         requires early { IsBelowEnd (G.place ground.old).client }
         ensures came { G.came ground.old ground.new }
         ensures world { IsInWorld (G.place ground.new) }
-        ensures mirrors { OnOk result (Mirrors (shows Q.entries R.scheme R.state) self.new (G.place ground.new)) }
-        ensures granted { IfOk result (λ did. HasGranted did (G.place ground.old) (G.place ground.new)) }
+        ensures mirrors { OnOk result (Mirrors (shows Q.entries R.scheme R.state) self.new
+            (G.place ground.new)) }
+        ensures granted { IfOk result (λ did. HasGranted did (G.place ground.old)
+            (G.place ground.new)) }
         ensures rounds { self.new.rounds ≡ self.old.rounds }
         ensures same { SameNode self.old self.new }
         ensures spent { result ≡ Err NodeEnd.SendsSpent → SpendsAtGrant (G.place ground.old) }
-        ensures refused { IfErr result (λ end. IsRefusal end × (G.place ground.new ≡ G.place ground.old) × IsReportOf self.new (G.place ground.old)) }
+        ensures refused { IfErr result
+            (λ end. IsRefusal end × (G.place ground.new ≡ G.place ground.old)
+            × IsReportOf self.new (G.place ground.old)) }
     {
         let Some(due) = self.grantable() else {
             return Ok(false);
@@ -158,7 +177,9 @@ impl<Q: Order + Drop, R: Reduction + Drop> Node<Q, R> {
         requires none { self.old.due.items ≡ [] }
         requires sent { self.old.outbox.messages.items ≡ [] }
         ensures run { OnOk result (HasRunBlock Q.entries federation.now due self.old self.new) }
-        ensures spent { result ≡ Err NodeEnd.SendsSpent → SpendsInBlock federation.now self.old.me due self.old.course.state (front_due due (Q.entries self.old.inbox.queue)) }
+        ensures spent { result ≡ Err NodeEnd.SendsSpent
+            → SpendsInBlock federation.now self.old.me due self.old.course.state
+            (front_due due (Q.entries self.old.inbox.queue)) }
         ensures kept { KeepsReport self.old self.new }
         ensures refused { IfErr result IsRefusal }
     {

@@ -1,6 +1,7 @@
 //! What a federate received and was not delivered yet.
 
-ghost use Rattle.std.specs.Prelude.{◌≡◌, ◌<◌, ◌≤◌, [], filter, not, ◌==◌, ◌&&◌, true, false, IfOk, OnOk, vec_capacity, length};
+ghost use Rattle.std.specs.Prelude.{◌≡◌, ◌<◌, ◌≤◌, [], filter, not, ◌==◌, ◌&&◌, true, false, IfOk};
+ghost use Rattle.std.specs.Prelude.{OnOk, vec_capacity, length};
 ghost use Rattle.std.specs.List.{list_any};
 ghost use Rattle.kit_node.specs.Fields.{is_named_so, no_receipts};
 
@@ -9,8 +10,8 @@ use kit_base::Head;
 use kit_queue::Order;
 use std::alloc::{AllocError, Global};
 
-/// A transient message that was collected and is still to be received: its head, once that was read,
-/// and the buffer of its sender that it lies in.
+/// A transient message that was collected and is still to be received: its head, once that was
+/// read, and the buffer of its sender that it lies in.
 #[derive(Clone, Copy, Debug)]
 pub(crate) struct Arrival {
     pub(crate) head: Head,
@@ -60,8 +61,8 @@ impl<Q: Order + Drop> Inbox<Q> {
         }
     }
 
-    /// Sets memory aside for all that one sender may have posted: so many messages, each of which may
-    /// become an entry of the queue or an orphan.
+    /// Sets memory aside for all that one sender may have posted: so many messages, each of which
+    /// may become an entry of the queue or an orphan.
     pub(crate) fn reserve(&mut self, most: usize) -> Result<(), AllocError>
         ensures room { OnOk result (HasRoom Q.spare most self.new) }
         ensures queue { Q.entries self.new.queue ≡ Q.entries self.old.queue }
@@ -79,7 +80,9 @@ impl<Q: Order + Drop> Inbox<Q> {
     /// Forgets an orphan, and says whether there was one.
     pub(crate) fn adopt(&mut self, orphan: Orphan) -> bool
         ensures named { result ≡ list_any (is_named_so orphan) self.old.orphans.items }
-        ensures orphans { result ≡ true → self.new.orphans.items ≡ filter (λ o. not (is_named_so orphan o)) self.old.orphans.items }
+        ensures orphans { result ≡ true
+            → self.new.orphans.items ≡ filter
+            (λ o. not (is_named_so orphan o)) self.old.orphans.items }
         ensures unknown { result ≡ false → self.new.orphans ≡ self.old.orphans }
         ensures fewer { length self.new.orphans.items ≤ length self.old.orphans.items }
         ensures room { vec_capacity self.new.orphans ≡ vec_capacity self.old.orphans }

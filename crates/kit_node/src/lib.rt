@@ -1,9 +1,9 @@
 //! Nodes: each runs one federate of a federation over a seat of a floor, turn by turn.
 //!
-//! A node keeps its federate's logical time, its pending request to advance, the messages that are to
-//! be delivered and those that are still to be posted, and what it needs for its part in the
-//! computation of the bound (LBTS). A turn receives transient messages, posts, takes part in a round,
-//! and grants the request where its due time is below the bound.
+//! A node keeps its federate's logical time, its pending request to advance, the messages that are
+//! to be delivered and those that are still to be posted, and what it needs for its part in the
+//! computation of the bound (LBTS). A turn receives transient messages, posts, takes part in a
+//! round, and grants the request where its due time is below the bound.
 #![tactic(auto)]
 
 mod course;

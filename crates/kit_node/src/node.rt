@@ -45,14 +45,18 @@ pub struct NodeReport {
 }
 
 impl<Q: Order + Drop, R: Reduction + Drop> Node<Q, R> {
-    ghost use Rattle.std.specs.Prelude.{◌≡◌, ◌==◌, ◌<◌, ◌≤◌, ◌-◌, ◌^◌, [], ◌∷◌, ◌++◌, length, IfOk, OnOk, IfErr, IsTrue, ◌↔◌, Some, None};
+    ghost use Rattle.std.specs.Prelude.{◌≡◌, ◌==◌, ◌<◌, ◌≤◌, ◌-◌, ◌^◌, [], ◌∷◌, ◌++◌, length};
+    ghost use Rattle.std.specs.Prelude.{IfOk, OnOk, IfErr, IsTrue, ◌↔◌, Some, None};
     ghost use Rattle.kit_lbts.specs.LedgerLaws.{ready_place};
     ghost use Rattle.kit_lbts.specs.SeatLaws.{IsInWorld};
     ghost use Rattle.kit_node.specs.Ends.{answer_of, closing_answer, end_by};
     ghost use Rattle.kit_node.specs.Mirrors.{Mirrors, shows};
-    ghost use Rattle.kit_node.specs.Nodes.{BeginsAs, IsReported, SameBesidesTurns, end_in, journal_in, known_bound, logical_time, number_of, rounds_in};
+    ghost use Rattle.kit_node.specs.Nodes.{BeginsAs, IsReported, SameBesidesTurns, end_in};
+    ghost use Rattle.kit_node.specs.Nodes.{journal_in, known_bound, logical_time, number_of};
+    ghost use Rattle.kit_node.specs.Nodes.{rounds_in};
     ghost use Rattle.kit_node.specs.Seats.{IsBelowEnd, IsSeatOf, IsWithinEnd};
-    ghost use Rattle.kit_node.specs.Turns.{HasEndedBy, HasWorked, IsHeldUpBy, IsListed, IsPosted, SameNode, TurnIs};
+    ghost use Rattle.kit_node.specs.Turns.{HasEndedBy, HasWorked, IsHeldUpBy, IsListed, IsPosted};
+    ghost use Rattle.kit_node.specs.Turns.{SameNode, TurnIs};
 
     /// The node of a federate before its first turn, which takes part in so many rounds at most.
     ///
@@ -66,7 +70,8 @@ impl<Q: Order + Drop, R: Reduction + Drop> Node<Q, R> {
         requires federate { federate < length federation.now.federates }
         requires some { 1 ≤ rounds }
         requires limit { rounds < 2 ^ 40 }
-        ensures { IfOk result (BeginsAs (shows Q.entries R.scheme R.state) federation.now federate rounds) }
+        ensures { IfOk result (BeginsAs
+            (shows Q.entries R.scheme R.state) federation.now federate rounds) }
     {
         Ok(Node {
             me: federate,
@@ -83,15 +88,18 @@ impl<Q: Order + Drop, R: Reduction + Drop> Node<Q, R> {
 
     /// Gives the federate one turn.
     ///
-    /// A node that has ended answers its end and makes no step. Otherwise it looks whether the run is
-    /// to stop, runs the start's rules if they have not run, receives what came, posts what it can,
-    /// takes part in a round, gives back buffers of messages that cannot be retracted any more, and
-    /// makes a grant if its request is due below the known bound.
+    /// A node that has ended answers its end and makes no step. Otherwise it looks whether the run
+    /// is to stop, runs the start's rules if they have not run, receives what came, posts what it
+    /// can, takes part in a round, gives back buffers of messages that cannot be retracted any
+    /// more, and makes a grant if its request is due below the known bound.
     pub fn turn<G: Ground<Under = Lbts>>(&mut self, federation: &Federation, ground: &mut G) -> Turn
-        requires { IsSeatOf (shows Q.entries R.scheme R.state) federation.now self.old (G.place ground.old) }
+        requires { IsSeatOf (shows Q.entries R.scheme R.state) federation.now self.old
+            (G.place ground.old) }
         ensures came { G.came ground.old ground.new }
-        ensures seat { IsSeatOf (shows Q.entries R.scheme R.state) federation.now self.new (G.place ground.new) }
-        ensures turn { TurnIs self.old.ended result self.old self.new (G.place ground.old) (G.place ground.new) }
+        ensures seat { IsSeatOf (shows Q.entries R.scheme R.state) federation.now self.new
+            (G.place ground.new) }
+        ensures turn { TurnIs self.old.ended result self.old self.new (G.place ground.old)
+            (G.place ground.new) }
         ensures listed { IsListed self.old self.new (G.place ground.old) (G.place ground.new) }
     {
         let before = steps_of(ground);
@@ -102,7 +110,8 @@ impl<Q: Order + Drop, R: Reduction + Drop> Node<Q, R> {
 
     /// Adds a turn to the list, with the steps that the seat made since it had made these.
     fn count_turn<G: Ground<Under = Lbts>>(&mut self, before: Known<u64>, ground: &G)
-        ensures turns { self.new.turns.value ≡ self.old.turns.value ++ ((G.place ground.now).own.steps - before.value) ∷ [] }
+        ensures turns { self.new.turns.value
+            ≡ self.old.turns.value ++ ((G.place ground.now).own.steps - before.value) ∷ [] }
         ensures others { SameBesidesTurns self.old self.new }
     {
         let turns = std::mem::replace(&mut self.turns, no_turns());
@@ -110,10 +119,13 @@ impl<Q: Order + Drop, R: Reduction + Drop> Node<Q, R> {
     }
 
     fn answer<G: Ground<Under = Lbts>>(&mut self, federation: &Federation, ground: &mut G) -> Turn
-        requires { IsSeatOf (shows Q.entries R.scheme R.state) federation.now self.old (G.place ground.old) }
+        requires { IsSeatOf (shows Q.entries R.scheme R.state) federation.now self.old
+            (G.place ground.old) }
         ensures came { G.came ground.old ground.new }
-        ensures seat { IsSeatOf (shows Q.entries R.scheme R.state) federation.now self.new (G.place ground.new) }
-        ensures turn { TurnIs self.old.ended result self.old self.new (G.place ground.old) (G.place ground.new) }
+        ensures seat { IsSeatOf (shows Q.entries R.scheme R.state) federation.now self.new
+            (G.place ground.new) }
+        ensures turn { TurnIs self.old.ended result self.old self.new (G.place ground.old)
+            (G.place ground.new) }
         ensures turns { self.new.turns ≡ self.old.turns }
     {
         if let Some(end) = self.ended {
@@ -151,8 +163,8 @@ impl<Q: Order + Drop, R: Reduction + Drop> Node<Q, R> {
         }
     }
 
-    /// The parts of a turn after the look at the stop word, in their order. It says whether anything
-    /// was done.
+    /// The parts of a turn after the look at the stop word, in their order. It says whether
+    /// anything was done.
     fn work<G: Ground<Under = Lbts>>(
         &mut self,
         federation: &Federation,
@@ -160,15 +172,19 @@ impl<Q: Order + Drop, R: Reduction + Drop> Node<Q, R> {
     ) -> Result<bool, NodeEnd>
         requires world { IsInWorld (G.place ground.old) }
         requires federation { (G.place ground.old).client.federation ≡ federation.now }
-        requires mirrors { Mirrors (shows Q.entries R.scheme R.state) self.old (G.place ground.old) }
+        requires mirrors { Mirrors (shows Q.entries R.scheme R.state) self.old
+            (G.place ground.old) }
         requires early { IsBelowEnd (G.place ground.old).client }
         requires within { IsWithinEnd (G.place ground.old).client }
         ensures came { G.came ground.old ground.new }
         ensures world { IsInWorld (G.place ground.new) }
         ensures federation { (G.place ground.new).client.federation ≡ federation.now }
-        ensures worked { IfOk result (λ busy. HasWorked busy (G.place ground.old) (G.place ground.new)) }
-        ensures mirrors { OnOk result (Mirrors (shows Q.entries R.scheme R.state) self.new (G.place ground.new)) }
-        ensures ends { IfErr result (λ end. HasEndedBy end self.new (G.place ground.old) (G.place ground.new)) }
+        ensures worked { IfOk result (λ busy. HasWorked busy (G.place ground.old)
+            (G.place ground.new)) }
+        ensures mirrors { OnOk result (Mirrors (shows Q.entries R.scheme R.state) self.new
+            (G.place ground.new)) }
+        ensures ends { IfErr result (λ end. HasEndedBy end self.new (G.place ground.old)
+            (G.place ground.new)) }
         ensures same { SameNode self.old self.new }
     {
         let started = self.start(federation)?;
@@ -188,14 +204,19 @@ impl<Q: Order + Drop, R: Reduction + Drop> Node<Q, R> {
     ) -> Result<bool, NodeEnd>
         requires world { IsInWorld (G.place ground.old) }
         requires federation { (G.place ground.old).client.federation ≡ federation.now }
-        requires mirrors { Mirrors (shows Q.entries R.scheme R.state) self.old (ready_place (G.place ground.old)) }
-        requires waits { (G.place ground.old).client.outbox ≡ (ready_place (G.place ground.old)).client.outbox }
+        requires mirrors { Mirrors (shows Q.entries R.scheme R.state) self.old
+            (ready_place (G.place ground.old)) }
+        requires waits { (G.place ground.old).client.outbox
+            ≡ (ready_place (G.place ground.old)).client.outbox }
         ensures came { G.came ground.old ground.new }
         ensures world { IsInWorld (G.place ground.new) }
-        ensures mirrors { Mirrors (shows Q.entries R.scheme R.state) self.new (ready_place (G.place ground.new)) }
+        ensures mirrors { Mirrors (shows Q.entries R.scheme R.state) self.new
+            (ready_place (G.place ground.new)) }
         ensures others { self.new ≡ record self.old { outbox = self.new.outbox } }
-        ensures sent { IfOk result (λ posted. IsPosted posted (G.place ground.old) (G.place ground.new)) }
-        ensures held_up { IfErr result (λ end. IsHeldUpBy end (G.place ground.old) (G.place ground.new)) }
+        ensures sent { IfOk result (λ posted. IsPosted posted (G.place ground.old)
+            (G.place ground.new)) }
+        ensures held_up { IfErr result
+            (λ end. IsHeldUpBy end (G.place ground.old) (G.place ground.new)) }
     {
         if self.outbox.is_empty() {
             return Ok(false);

@@ -1,6 +1,7 @@
 //! The messages that a federate is still to post, and what it put in its buffers.
 
-ghost use Rattle.std.specs.Prelude.{◌≡◌, ◌+◌, ◌<◌, ◌≤◌, [], ◌∷◌, drop, filter, length, replicate, All, IfOk, IfSome, IfNone, IsTrue, ◌↔◌};
+ghost use Rattle.std.specs.Prelude.{◌≡◌, ◌+◌, ◌<◌, ◌≤◌, [], ◌∷◌, drop, filter, length, replicate};
+ghost use Rattle.std.specs.Prelude.{All, IfOk, IfSome, IfNone, IsTrue, ◌↔◌};
 ghost use Rattle.kit_rules.specs.Delivery.{is_transported};
 ghost use Rattle.kit_node.specs.Fields.{no_posts, waiting_in};
 
@@ -40,7 +41,8 @@ impl Outbox {
 
     /// The message that is to be posted next.
     pub(crate) fn first(&self) -> Option<Message>
-        ensures some { IfSome result (λ m. waiting_in self.now ≡ m ∷ drop (self.now.done + 1) self.now.messages.items) }
+        ensures some { IfSome result (λ m. waiting_in self.now
+            ≡ m ∷ drop (self.now.done + 1) self.now.messages.items) }
         ensures none { IfNone result (waiting_in self.now ≡ []) }
         ensures inside { IfSome result (λ _. self.now.done < length self.now.messages.items) }
     {
@@ -56,7 +58,8 @@ impl Outbox {
 
     /// Drops what is not transported of the messages that were just made.
     pub(crate) fn keep_transported(&mut self, federation: &Federation)
-        ensures messages { self.new.messages.items ≡ filter (is_transported federation.now) self.old.messages.items }
+        ensures messages { self.new.messages.items
+            ≡ filter (is_transported federation.now) self.old.messages.items }
         ensures done { self.new.done ≡ self.old.done }
         ensures put { self.new.put ≡ self.old.put }
         ensures posts { self.new.posts ≡ self.old.posts }

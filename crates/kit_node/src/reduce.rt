@@ -1,6 +1,7 @@
 //! The part in the rounds of the reduction, by which the bound (LBTS) is computed.
 
-ghost use Rattle.std.specs.Prelude.{◌≡◌, ◌<◌, ◌≤◌, ◌+◌, ◌^◌, true, false, OnOk, OnErr, IfOk, IfErr, length};
+ghost use Rattle.std.specs.Prelude.{◌≡◌, ◌<◌, ◌≤◌, ◌+◌, ◌^◌, true, false, OnOk, OnErr, IfOk};
+ghost use Rattle.std.specs.Prelude.{IfErr, length};
 ghost use Rattle.kit_lbts.specs.LedgerLaws.{ready_place};
 ghost use Rattle.kit_fly.specs.Rounds.{FollowsRound, SlotsShowRound};
 ghost use Rattle.kit_lbts.specs.SeatLaws.{IsInWorld};
@@ -16,11 +17,13 @@ use kit_rules::Federation;
 
 impl<Q: Order + Drop, R: Reduction + Drop> Node<Q, R> {
     ghost use Rattle.kit_node.specs.Mirrors.{Mirrors, shows};
-    ghost use Rattle.kit_node.specs.Reducing.{CanPromise, HasOpened, HasPolled, HasReduced, HasSpentRounds, IsPastOpening, coloured, promise_of_node, share_of_node};
+    ghost use Rattle.kit_node.specs.Reducing.{CanPromise, HasOpened, HasPolled, HasReduced};
+    ghost use Rattle.kit_node.specs.Reducing.{HasSpentRounds, IsPastOpening, coloured};
+    ghost use Rattle.kit_node.specs.Reducing.{promise_of_node, share_of_node};
     ghost use Rattle.kit_node.specs.Turns.{SameNode};
 
-    /// Opens a round where none is under way and the bound is not beyond the end, and polls the round
-    /// that is under way. It says whether it opened one, or a register showed the round.
+    /// Opens a round where none is under way and the bound is not beyond the end, and polls the
+    /// round that is under way. It says whether it opened one, or a register showed the round.
     pub(crate) fn reduce<G: Ground<Under = Lbts>>(
         &mut self,
         federation: &Federation,
@@ -28,14 +31,19 @@ impl<Q: Order + Drop, R: Reduction + Drop> Node<Q, R> {
     ) -> Result<bool, NodeEnd>
         requires world { IsInWorld (G.place ground.old) }
         requires federation { (G.place ground.old).client.federation ≡ federation.now }
-        requires mirrors { Mirrors (shows Q.entries R.scheme R.state) self.old (ready_place (G.place ground.old)) }
+        requires mirrors { Mirrors (shows Q.entries R.scheme R.state) self.old
+            (ready_place (G.place ground.old)) }
         ensures came { G.came ground.old ground.new }
         ensures world { IsInWorld (G.place ground.new) }
-        ensures mirrors { OnOk result (Mirrors (shows Q.entries R.scheme R.state) self.new (G.place ground.new)) }
-        ensures reduced { IfOk result (λ did. HasReduced did (G.place ground.old) (G.place ground.new)) }
+        ensures mirrors { OnOk result (Mirrors (shows Q.entries R.scheme R.state) self.new
+            (G.place ground.new)) }
+        ensures reduced { IfOk result (λ did. HasReduced did (G.place ground.old)
+            (G.place ground.new)) }
         ensures same { SameNode self.old self.new }
-        ensures spent { IfErr result (λ end. (end ≡ NodeEnd.RoundsSpent) × HasSpentRounds self.old.rounds.limit (G.place ground.old)) }
-        ensures refused { OnErr result ((self.new ≡ self.old) × (G.place ground.new ≡ G.place ground.old)) }
+        ensures spent { IfErr result (λ end. (end ≡ NodeEnd.RoundsSpent)
+            × HasSpentRounds self.old.rounds.limit (G.place ground.old)) }
+        ensures refused { OnErr result
+            ((self.new ≡ self.old) × (G.place ground.new ≡ G.place ground.old)) }
     {
         let opened = self.open_round(federation, ground)?;
         let found = self.poll_round(ground);
@@ -50,13 +58,20 @@ impl<Q: Order + Drop, R: Reduction + Drop> Node<Q, R> {
     ) -> Result<bool, NodeEnd>
         requires world { IsInWorld (G.place ground.old) }
         requires federation { (G.place ground.old).client.federation ≡ federation.now }
-        requires mirrors { Mirrors (shows Q.entries R.scheme R.state) self.old (ready_place (G.place ground.old)) }
+        requires mirrors { Mirrors (shows Q.entries R.scheme R.state) self.old
+            (ready_place (G.place ground.old)) }
         ensures came { G.came ground.old ground.new }
         ensures world { IsInWorld (G.place ground.new) }
-        ensures opened { IfOk result (λ did. did ≡ true → HasOpened (shows Q.entries R.scheme R.state) self.old self.new (G.place ground.old) (G.place ground.new)) }
-        ensures none { IfOk result (λ did. did ≡ false → (self.new ≡ self.old) × (G.place ground.new ≡ G.place ground.old) × IsPastOpening self.old federation.now.end) }
-        ensures spent { IfErr result (λ end. (end ≡ NodeEnd.RoundsSpent) × HasSpentRounds self.old.rounds.limit (G.place ground.old)) }
-        ensures refused { OnErr result ((self.new ≡ self.old) × (G.place ground.new ≡ G.place ground.old)) }
+        ensures opened { IfOk result (λ did. did ≡ true
+            → HasOpened (shows Q.entries R.scheme R.state) self.old self.new (G.place ground.old)
+            (G.place ground.new)) }
+        ensures none { IfOk result (λ did. did ≡ false
+            → (self.new ≡ self.old) × (G.place ground.new ≡ G.place ground.old)
+            × IsPastOpening self.old federation.now.end) }
+        ensures spent { IfErr result (λ end. (end ≡ NodeEnd.RoundsSpent)
+            × HasSpentRounds self.old.rounds.limit (G.place ground.old)) }
+        ensures refused { OnErr result
+            ((self.new ≡ self.old) × (G.place ground.new ≡ G.place ground.old)) }
     {
         if self.rounds.under_way || self.rounds.bound > federation.end() {
             return Ok(false);
@@ -77,13 +92,18 @@ impl<Q: Order + Drop, R: Reduction + Drop> Node<Q, R> {
     /// Polls the round that is under way, if one is. It says whether a register showed the round.
     fn poll_round<G: Ground<Under = Lbts>>(&mut self, ground: &mut G) -> bool
         requires world { IsInWorld (G.place ground.old) }
-        requires follows { self.old.rounds.under_way ≡ true → FollowsRound R.scheme (R.state self.old.rounds.reduction) (G.place ground.old) }
-        requires shown { self.old.rounds.under_way ≡ true → SlotsShowRound R.scheme (R.state self.old.rounds.reduction) (G.place ground.old) }
+        requires follows { self.old.rounds.under_way ≡ true
+            → FollowsRound R.scheme (R.state self.old.rounds.reduction) (G.place ground.old) }
+        requires shown { self.old.rounds.under_way ≡ true
+            → SlotsShowRound R.scheme (R.state self.old.rounds.reduction) (G.place ground.old) }
         requires runs { self.old.rounds.run + 1 < 2 ^ 64 }
         ensures came { G.came ground.old ground.new }
         ensures world { IsInWorld (G.place ground.new) }
-        ensures none { self.old.rounds.under_way ≡ false → (result ≡ false) × (self.new ≡ self.old) × (G.place ground.new ≡ G.place ground.old) }
-        ensures polled { self.old.rounds.under_way ≡ true → HasPolled (shows Q.entries R.scheme R.state) result self.old self.new (G.place ground.old) (G.place ground.new) }
+        ensures none { self.old.rounds.under_way ≡ false
+            → (result ≡ false) × (self.new ≡ self.old) × (G.place ground.new ≡ G.place ground.old) }
+        ensures polled { self.old.rounds.under_way ≡ true
+            → HasPolled (shows Q.entries R.scheme R.state) result self.old self.new
+            (G.place ground.old) (G.place ground.new) }
     {
         if !self.rounds.under_way {
             return false;

@@ -1,6 +1,7 @@
 //! The posting of the messages of the outbox.
 
-ghost use Rattle.std.specs.Prelude.{◌≡◌, ◌<◌, ◌≤◌, ◌+◌, ◌^◌, ℕ, Bool, true, slice_set, if◌then◌else◌, IfSome, IfNone, IfOk, IfErr, Option};
+ghost use Rattle.std.specs.Prelude.{◌≡◌, ◌<◌, ◌≤◌, ◌+◌, ◌^◌, ℕ, Bool, true, slice_set};
+ghost use Rattle.std.specs.Prelude.{if◌then◌else◌, IfSome, IfNone, IfOk, IfErr, Option};
 ghost use Rattle.std.specs.Int.{bit_at};
 ghost use Rattle.kit_ground.specs.declared.place.Deed.TheVariants.{PostedTo};
 ghost use Rattle.kit_ground.specs.Steps.{buffer_of, place_after};
@@ -11,7 +12,8 @@ ghost use Rattle.kit_lbts.specs.SeatLaws.{IsInWorld};
 ghost use Rattle.kit_node.specs.Fields.{one_post_more};
 ghost use Rattle.kit_node.specs.Looks.{HasFound, HasFoundNone, LooksAtCounts};
 ghost use Rattle.kit_node.specs.Mirrors.{MirrorsOutbox};
-ghost use Rattle.kit_node.specs.Sending.{HasPosted, HasSent, IsFirstOf, IsHeldUp, charged_place, posted_place, posts_after};
+ghost use Rattle.kit_node.specs.Sending.{HasPosted, HasSent, IsFirstOf, IsHeldUp, charged_place};
+ghost use Rattle.kit_node.specs.Sending.{posted_place, posts_after};
 
 use crate::outbox::Outbox;
 use crate::steps::{charge, is_free, post, write};
@@ -31,7 +33,8 @@ fn free_buffer<G: Ground<Under = Lbts>>(ground: &mut G) -> Option<u16>
     ensures world { IsInWorld (G.place ground.new) }
     ensures looks { LooksAtCounts (G.place ground.old) (G.place ground.new) }
     ensures found { IfSome result (HasFound (G.place ground.old) (G.place ground.new)) }
-    ensures none { IfNone result (HasFoundNone (G.place ground.old) (G.place ground.new).own.buffers (G.place ground.new)) }
+    ensures none { IfNone result (HasFoundNone (G.place ground.old) (G.place ground.new).own.buffers
+        (G.place ground.new)) }
 {
     for buffer in 0..ground.buffers() {
         if is_free(ground, buffer) {
@@ -63,13 +66,15 @@ impl Outbox {
         requires buffer { buffer < (G.place ground.old).own.buffers }
         requires free { (buffer_of (G.place ground.old).own.stock buffer).free ≡ true }
         requires first { IsFirstOf message.now (G.place ground.old).client }
-        requires mask { mask ≡ receivers_of (G.place ground.old).client.federation message.now.sender message.now.group }
+        requires mask { mask ≡ receivers_of
+            (G.place ground.old).client.federation message.now.sender message.now.group }
         requires colour { colour ≡ last_run (G.place ground.old).client.contributions }
         requires small { colour < 2 ^ 40 }
         requires mirrors { MirrorsOutbox self.old (G.place ground.old).client }
         ensures came { G.came ground.old ground.new }
         ensures world { IsInWorld (G.place ground.new) }
-        ensures place { G.place ground.new ≡ charged_place message.now colour buffer mask (G.place ground.old) }
+        ensures place { G.place ground.new
+            ≡ charged_place message.now colour buffer mask (G.place ground.old) }
         ensures put { self.new.put.items ≡ slice_set self.old.put.items buffer message.now.time }
         ensures messages { self.new.messages ≡ self.old.messages }
         ensures done { self.new.done ≡ self.old.done }
@@ -96,7 +101,8 @@ impl Outbox {
         ensures came { G.came ground.old ground.new }
         ensures world { IsInWorld (G.place ground.new) }
         ensures place { G.place ground.new ≡ posted_place buffer mask (G.place ground.old) }
-        ensures counted { self.new.posts ≡ posts_after time mask (G.place ground.old).own.federates self.old.posts }
+        ensures counted { self.new.posts
+            ≡ posts_after time mask (G.place ground.old).own.federates self.old.posts }
         ensures messages { self.new.messages ≡ self.old.messages }
         ensures done { self.new.done ≡ self.old.done }
         ensures put { self.new.put ≡ self.old.put }
@@ -118,12 +124,16 @@ impl Outbox {
         requires world { IsInWorld (G.place ground.old) }
         requires buffer { buffer < (G.place ground.old).own.buffers }
         requires to { to < (G.place ground.old).own.federates }
-        requires owed { has_bit mask to ≡ true → bit_at (buffer_of (G.place ground.old).own.stock buffer).to_post to ≡ 1 }
+        requires owed { has_bit mask to ≡ true
+            → bit_at (buffer_of (G.place ground.old).own.stock buffer).to_post to ≡ 1 }
         requires posts { self.old.posts.own + 1 < 2 ^ 32 }
         ensures came { G.came ground.old ground.new }
         ensures world { IsInWorld (G.place ground.new) }
-        ensures place { G.place ground.new ≡ (if has_bit mask to then place_after view_after (PostedTo buffer to) (G.place ground.old) else G.place ground.old) }
-        ensures counted { self.new.posts ≡ (if has_bit mask to then one_post_more time self.old.posts else self.old.posts) }
+        ensures place { G.place ground.new
+            ≡ (if has_bit mask to then place_after view_after (PostedTo buffer to)
+            (G.place ground.old) else G.place ground.old) }
+        ensures counted { self.new.posts
+            ≡ (if has_bit mask to then one_post_more time self.old.posts else self.old.posts) }
         ensures messages { self.new.messages ≡ self.old.messages }
         ensures done { self.new.done ≡ self.old.done }
         ensures put { self.new.put ≡ self.old.put }
@@ -162,8 +172,8 @@ impl Outbox {
         self.pass();
     }
 
-    /// Posts the messages in their order, as long as a buffer is free. It says whether one was posted,
-    /// and which waits.
+    /// Posts the messages in their order, as long as a buffer is free. It says whether one was
+    /// posted, and which waits.
     fn post_all<G: Ground<Under = Lbts>>(
         &mut self,
         ground: &mut G,
@@ -178,7 +188,8 @@ impl Outbox {
         requires mirrors { MirrorsOutbox self.old (G.place ground.old).client }
         ensures came { G.came ground.old ground.new }
         ensures world { IsInWorld (G.place ground.new) }
-        ensures sent { HasSent result.posted result.waits (G.place ground.old) (G.place ground.new) }
+        ensures sent { HasSent result.posted result.waits (G.place ground.old)
+            (G.place ground.new) }
         ensures mirrors { MirrorsOutbox self.new (G.place ground.new).client }
     {
         let mut posted = false;
@@ -209,8 +220,8 @@ pub(crate) struct Sent {
 impl<Q: Order + Drop, R: Reduction + Drop> Node<Q, R> {
     ghost use Rattle.kit_node.specs.Mirrors.{Mirrors, shows};
 
-    /// Posts the messages of the outbox in their order, as long as a buffer is free. It says whether
-    /// one was posted.
+    /// Posts the messages of the outbox in their order, as long as a buffer is free. It says
+    /// whether one was posted.
     ///
     /// Where none is free the node ends, if none can become free before its time goes on.
     pub(crate) fn send<G: Ground<Under = Lbts>>(
@@ -220,13 +231,19 @@ impl<Q: Order + Drop, R: Reduction + Drop> Node<Q, R> {
     ) -> Result<bool, NodeEnd>
         requires world { IsInWorld (G.place ground.old) }
         requires federation { (G.place ground.old).client.federation ≡ federation.now }
-        requires mirrors { Mirrors (shows Q.entries R.scheme R.state) self.old (G.place ground.old) }
+        requires mirrors { Mirrors (shows Q.entries R.scheme R.state) self.old
+            (G.place ground.old) }
         ensures came { G.came ground.old ground.new }
         ensures world { IsInWorld (G.place ground.new) }
         ensures mirrors { Mirrors (shows Q.entries R.scheme R.state) self.new (G.place ground.new) }
         ensures others { self.new ≡ record self.old { outbox = self.new.outbox } }
-        ensures sent { IfOk result (λ posted. (waits : Option ℕ) × HasSent posted waits (G.place ground.old) (G.place ground.new) × (IsHeldUp (G.place ground.new) → waits ≡ None)) }
-        ensures held_up { IfErr result (λ end. (number : ℕ) × (posted : Bool) × (end ≡ NodeEnd.NoBuffer number) × HasSent posted (Some number) (G.place ground.old) (G.place ground.new) × IsHeldUp (G.place ground.new)) }
+        ensures sent { IfOk result (λ posted. (waits : Option ℕ)
+            × HasSent posted waits (G.place ground.old) (G.place ground.new)
+            × (IsHeldUp (G.place ground.new) → waits ≡ None)) }
+        ensures held_up { IfErr result
+            (λ end. (number : ℕ) × (posted : Bool) × (end ≡ NodeEnd.NoBuffer number)
+            × HasSent posted (Some number) (G.place ground.old) (G.place ground.new)
+            × IsHeldUp (G.place ground.new)) }
     {
         let colour = self.rounds.colour;
         let Sent { posted, waits } = self.outbox.post_all(ground, federation, colour);

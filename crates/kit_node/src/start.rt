@@ -1,6 +1,7 @@
 //! The start.
 
-ghost use Rattle.std.specs.Prelude.{◌≡◌, ◌<◌, [], length, true, false, None, OnOk, OnErr, IfOk, IfErr, is_some};
+ghost use Rattle.std.specs.Prelude.{◌≡◌, ◌<◌, [], length, true, false, None, OnOk, OnErr, IfOk};
+ghost use Rattle.std.specs.Prelude.{IfErr, is_some};
 ghost use Rattle.kit_node.specs.Granting.{IsRefusal, KeepsReport};
 ghost use Rattle.kit_node.specs.Starting.{IsBegun, IsSpentAtStart};
 
@@ -17,10 +18,13 @@ impl<Q: Order + Drop, R: Reduction + Drop> Node<Q, R> {
     pub(crate) fn start(&mut self, federation: &Federation) -> Result<bool, NodeEnd>
         requires me { self.old.me < length federation.now.federates }
         requires empty { self.old.course.request ≡ None → self.old.outbox.messages.items ≡ [] }
-        ensures done { is_some self.old.course.request ≡ true → (result ≡ Ok false) × (self.new ≡ self.old) }
-        ensures begun { self.old.course.request ≡ None → OnOk result (IsBegun federation.now self.old self.new) }
+        ensures done { is_some self.old.course.request ≡ true
+            → (result ≡ Ok false) × (self.new ≡ self.old) }
+        ensures begun { self.old.course.request ≡ None
+            → OnOk result (IsBegun federation.now self.old self.new) }
         ensures answer { self.old.course.request ≡ None → IfOk result (λ did. did ≡ true) }
-        ensures spent { result ≡ Err NodeEnd.SendsSpent → (self.old.course.request ≡ None) × IsSpentAtStart federation.now self.old }
+        ensures spent { result ≡ Err NodeEnd.SendsSpent
+            → (self.old.course.request ≡ None) × IsSpentAtStart federation.now self.old }
         ensures refused { OnErr result (KeepsReport self.old self.new) }
         ensures bad { IfErr result IsRefusal }
     {

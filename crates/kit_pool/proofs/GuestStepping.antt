@@ -13,7 +13,8 @@ use Rattle.kit_ground.specs.Steps.{place_after, address_of}
 use Rattle.kit_ground.proofs.Layouts.{on_floor}
 use Rattle.kit_pool.specs.Seating.{TableHolds, others_of, place_in}
 use Rattle.kit_pool.specs.Seats.{IsOwn, IsSized}
-use Rattle.kit_pool.specs.Watching.{AreGuests, GuestPlans, IsGuestWithin, LookIsTold, WasSeen}
+use Rattle.kit_pool.specs.Watching.{AreGuests, GuestPlans, IsGuestWithin, LookIsTold}
+use Rattle.kit_ground.specs.Guests.{WasSeen}
 use Rattle.kit_pool.proofs.GuestSteps.{look_there, sees}
 use Rattle.kit_pool.proofs.Owning.{desk_is, on_own, own_numbers}
 

@@ -17,7 +17,8 @@ use Rattle.kit_ground.specs.Memory.{Memory}
 use Rattle.kit_ground.specs.Rules.{Rule}
 use Rattle.kit_ground.specs.Steps.{Allowed, place_after, address_of}
 use Rattle.kit_pool.specs.Seating.{DeskIsOwned, HoldsOfOwnPlace, IsGuestBeside, TableHolds}
-use Rattle.kit_pool.specs.Watching.{GuestPlans, IsLook, LookIsTold, WasSeen}
+use Rattle.kit_pool.specs.Watching.{GuestPlans, IsLook, LookIsTold}
+use Rattle.kit_ground.specs.Guests.{WasSeen}
 use Rattle.kit_pool.proofs.Behind.{at_behind, set_behind, set_same}
 use Rattle.kit_pool.proofs.Holding.{held_after}
 use Rattle.kit_pool.proofs.SeatSteps.{word_found}

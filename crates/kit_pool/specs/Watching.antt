@@ -7,7 +7,7 @@ use Rattle.kit_ground.specs.declared.address.Address.{Address}
 use Rattle.kit_ground.specs.declared.place.Deed.{Deed}
 use Rattle.kit_ground.specs.declared.place.Deed.TheVariants.{Looked, SawStop}
 use Rattle.kit_ground.specs.declared.place.Place.{Place}
-use Rattle.kit_ground.specs.Guests.{GuestKeeps, GuestWorld}
+use Rattle.kit_ground.specs.Guests.{GuestKeeps, WasSeen}
 use Rattle.kit_ground.specs.Memory.{Memory}
 use Rattle.kit_ground.specs.Rules.{Rule, own_at_first, places_at_first, zero_memory}
 use Rattle.kit_ground.specs.Steps.{Allowed, place_after, address_of}
@@ -37,10 +37,6 @@ module _ {V : Type 0} where
   -- all places are those of guests, beside n federates
   abbrev pub AreGuests : ℕ → List (Place V) → Type 0
   AreGuests n desk = (k : ℕ) (p : Place V) → get_elem? desk k ≡ some p → n ≤ p.own.number
-
-  -- there was a world of this guest, and this word was in it
-  abbrev pub WasSeen : Rule V → Place V → Address → ℕ → Type 0
-  WasSeen rule g a word = (m : Memory) × (places : List (Place V)) × GuestWorld rule g m places × (m a ≡ word)
 
   -- what a guest's look is to do at this address: it is allowed whatever it finds, and keeps the rule of guests in every world
   pub record GuestPlans (rule : Rule V) (next : Deed → Place V → V) (g : Place V) (a : Address) (deed : ℕ → Deed) : Type 0 where

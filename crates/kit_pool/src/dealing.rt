@@ -19,8 +19,8 @@ use kit_known::Known;
 use std::alloc::{AllocError, Global};
 use std::collections::LinkedList;
 
-/// A table whose words are these, and its seats: those of the federates in their order, and those of
-/// the guests.
+/// A table whose words are these, and its seats: those of the federates in their order, and those
+/// of the guests.
 pub fn lay<P: Protocol, F: Front>(
     alloc: Global,
     words: &[u64],
@@ -34,16 +34,20 @@ pub fn lay<P: Protocol, F: Front>(
     requires guests { guests ≤ 4 }
     requires words { F.front federates ++ words.now ≡ replicate (size_of federates buffers) 0 }
     requires some { 0 < length words.now }
-    requires rule { P.rule.holds zero_memory (places_at_first (P.first opening.now.value) federates buffers) }
+    requires rule { P.rule.holds zero_memory
+        (places_at_first (P.first opening.now.value) federates buffers) }
     requires sees { GuestsSee P.rule (P.first opening.now.value) federates buffers guests }
     ensures laid { IfOk result (λ r. IsLaidFor r.0.shared federates buffers) }
     ensures opening { IfOk result (λ r. r.0.shared.key.opening.value ≡ opening.now.value) }
     ensures words { IfOk result (λ r. r.0.shared.table_id.words ≡ length words.now) }
-    ensures sized { IfOk result (λ r. IsSized (F.front federates) federates buffers r.0.shared.table_id) }
+    ensures sized { IfOk result (λ r. IsSized
+        (F.front federates) federates buffers r.0.shared.table_id) }
     ensures many { IfOk result (λ r. length r.1.items ≡ federates) }
-    ensures seats { IfOk result (λ r. (k : ℕ) (s : _) → get_elem? r.1.items k ≡ some s → IsNewSeatOn P.first r.0.shared k s) }
+    ensures seats { IfOk result (λ r. (k : ℕ) (s : _) → get_elem? r.1.items k ≡ some s
+        → IsNewSeatOn P.first r.0.shared k s) }
     ensures watchers { IfOk result (λ r. length r.2.items ≡ guests) }
-    ensures guests { IfOk result (λ r. (k : ℕ) (s : _) → get_elem? r.2.items k ≡ some s → IsNewGuestOn P.first r.0.shared (federates + k) s) }
+    ensures guests { IfOk result (λ r. (k : ℕ) (s : _) → get_elem? r.2.items k ≡ some s
+        → IsNewGuestOn P.first r.0.shared (federates + k) s) }
 {
     let about = Laid {
         federates,
@@ -72,7 +76,8 @@ fn deal<P: Protocol, F: Front>(
     requires all { federates ≤ all }
     requires rest { IsToDeal P.first table.now.shared 0 all rest.old }
     ensures many { IfOk result (λ r. length r.items ≡ federates) }
-    ensures seats { IfOk result (λ r. (k : ℕ) (s : _) → get_elem? r.items k ≡ some s → IsNewSeatOn P.first table.now.shared k s) }
+    ensures seats { IfOk result (λ r. (k : ℕ) (s : _) → get_elem? r.items k ≡ some s
+        → IsNewSeatOn P.first table.now.shared k s) }
     ensures rest { IfOk result (λ r. IsToDeal P.first table.now.shared federates all rest.new) }
 {
     let mut seats = Vec::new(alloc);
@@ -97,7 +102,8 @@ fn deal_guests<P: Protocol, F: Front>(
     requires all { federates ≤ all }
     requires rest { IsToDeal P.first table.now.shared federates all rest }
     ensures many { IfOk result (λ r. federates + length r.items ≡ all) }
-    ensures seats { IfOk result (λ r. (k : ℕ) (s : _) → get_elem? r.items k ≡ some s → IsNewGuestOn P.first table.now.shared (federates + k) s) }
+    ensures seats { IfOk result (λ r. (k : ℕ) (s : _) → get_elem? r.items k ≡ some s
+        → IsNewGuestOn P.first table.now.shared (federates + k) s) }
 {
     let mut guests = Vec::new(alloc);
     for number in federates..all {
@@ -135,9 +141,11 @@ pub fn gather_guests<P: Protocol, F: Front>(
 )
     requires some { HasWords table.now.shared }
     requires seat { IsOf table.now.shared all.old }
-    requires of_it { (k : ℕ) (s : _) → get_elem? guests.items k ≡ some s → GuestIsOf table.now.shared s }
+    requires of_it { (k : ℕ) (s : _) → get_elem? guests.items k ≡ some s
+        → GuestIsOf table.now.shared s }
     ensures of_it { IsOf table.now.shared all.new }
-    ensures places { desk_of all.new ≡ desk_of all.old ++ desks_taken_in (map guest_desk_of guests.items) }
+    ensures places { desk_of all.new
+        ≡ desk_of all.old ++ desks_taken_in (map guest_desk_of guests.items) }
 {
     while let Some(guest) = guests.pop() {
         all.take_in_guest::<F>(table, guest);

@@ -26,9 +26,11 @@ impl<P: Protocol> GuestSeat<P> {
     ghost use Rattle.kit_ground.specs.Layout.{index_of};
     ghost use Rattle.kit_ground.specs.Steps.{place_after};
     ghost use Rattle.kit_pool.specs.Dealing.{GuestIsOf, HasWords, IsLaidFor, IsToDeal};
-    ghost use Rattle.kit_pool.specs.GuestViews.{IsGuestOn, IsNewGuestOn, IsSameGuestSeat, guest_desk_of, guest_place_on, guests_with};
+    ghost use Rattle.kit_pool.specs.GuestViews.{IsGuestOn, IsNewGuestOn, IsSameGuestSeat};
+    ghost use Rattle.kit_pool.specs.GuestViews.{guest_desk_of, guest_place_on, guests_with};
     ghost use Rattle.kit_pool.specs.Seats.{IsSized};
-    ghost use Rattle.kit_pool.specs.Watching.{GuestPlans, IsGuestWithin, WasSeen};
+    ghost use Rattle.kit_pool.specs.Watching.{GuestPlans, IsGuestWithin};
+    ghost use Rattle.kit_ground.specs.Guests.{WasSeen};
 
     /// The number of the guest. Guests are numbered after the federates.
     pub fn number(&self) -> u8
@@ -60,12 +62,18 @@ impl<P: Protocol> GuestSeat<P> {
         _about: Deed,
     ) -> u64
         requires seat { IsGuestOn table.now.shared self.old }
-        requires sized { IsSized (F.front self.old.federates) self.old.federates self.old.buffers table.now.shared.table_id }
-        requires at { length (F.front self.old.federates) + at ≡ index_of self.old.federates self.old.buffers address }
-        requires plan { GuestPlans P.rule E.next (guest_place_on P.first table.now.shared self.old) address D.deed }
+        requires sized { IsSized (F.front self.old.federates) self.old.federates self.old.buffers
+            table.now.shared.table_id }
+        requires at { length (F.front self.old.federates) + at
+            ≡ index_of self.old.federates self.old.buffers address }
+        requires plan { GuestPlans P.rule E.next
+            (guest_place_on P.first table.now.shared self.old) address D.deed }
         ensures same { IsSameGuestSeat self.old self.new }
-        ensures place { guest_desk_of self.new ≡ place_after E.next (D.deed result) (guest_place_on P.first table.now.shared self.old) ∷ guests_with self.old }
-        ensures told { WasSeen P.rule (guest_place_on P.first table.now.shared self.old) address result }
+        ensures place { guest_desk_of self.new
+            ≡ place_after E.next (D.deed result)
+            (guest_place_on P.first table.now.shared self.old) ∷ guests_with self.old }
+        ensures told { WasSeen P.rule (guest_place_on P.first table.now.shared self.old) address
+            result }
     {
         let seat = &mut self.seat;
         table.shared.load::<Sees<P, E, D>>(seat, at)
@@ -97,8 +105,8 @@ impl<P: Protocol> GuestSeat<P> {
         seat
     }
 
-    /// The first of the places that are still to be dealt, of as many as there are in all, goes to a
-    /// guest's seat of its own.
+    /// The first of the places that are still to be dealt, of as many as there are in all, goes to
+    /// a guest's seat of its own.
     pub(crate) fn part<F: Front>(
         table: &SeatingTable<P, F>,
         rest: &mut Seat<(), LinkedList<Place<P::View>>>,

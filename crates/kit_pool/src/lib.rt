@@ -1,5 +1,5 @@
-//! Buffers and mail on the words of a table, and seats that step on them: one rule and one set of laws
-//! for each floor that threads share.
+//! Buffers and mail on the words of a table, and seats that step on them: one rule and one set of
+//! laws for each floor that threads share.
 #![tactic(auto)]
 
 mod dealing;

@@ -26,7 +26,8 @@ impl Front for Registers {
 pub struct Pool {
     table: SeatingTable<Bare, Registers>,
     ghost some: { 0 < table.shared.table_id.words },
-    ghost sized: { IsSized (idle_registers table.shared.key.federates) table.shared.key.federates table.shared.key.buffers table.shared.table_id },
+    ghost sized: { IsSized (idle_registers table.shared.key.federates) table.shared.key.federates
+        table.shared.key.buffers table.shared.table_id },
 }
 
 /// A seat of a pool.
@@ -51,7 +52,8 @@ impl Pool {
         ensures federates { IfOk result (λ r. federates_of r.0 ≡ federates) }
         ensures buffers { IfOk result (λ r. buffers_of r.0 ≡ buffers) }
         ensures many { IfOk result (λ r. length r.1.items ≡ federates) }
-        ensures seats { IfOk result (λ r. (k : ℕ) (s : _) → get_elem? r.1.items k ≡ some s → IsNewSeatOf r.0 k s) }
+        ensures seats { IfOk result (λ r. (k : ℕ) (s : _) → get_elem? r.1.items k ≡ some s
+            → IsNewSeatOf r.0 k s) }
     {
         let words = zeros(alloc, federates, buffers)?;
         let (table, seats, _) = lay::<Bare, Registers>(
@@ -72,7 +74,8 @@ fn zeros(alloc: Global, federates: u8, buffers: u16) -> Result<Vec<u64>, AllocEr
     requires some { (1 ≤ federates) × (1 ≤ buffers) }
     requires few { federates ≤ 16 }
     requires small { buffers ≤ 1024 }
-    ensures all { IfOk result (λ words. idle_registers federates ++ words.items ≡ replicate (size_of federates buffers) 0) }
+    ensures all { IfOk result (λ words. idle_registers federates ++ words.items
+        ≡ replicate (size_of federates buffers) 0) }
     ensures some { IfOk result (λ words. 0 < length words.items) }
 {
     let n = usize::from(federates);
@@ -84,10 +87,13 @@ fn zeros(alloc: Global, federates: u8, buffers: u16) -> Result<Vec<u64>, AllocEr
 }
 
 impl TableSeat<Bare> {
-    ghost use Rattle.std.specs.Prelude.{◌≡◌, ◌≢◌, ℕ, ◌+◌, ◌*◌, ◌/◌, ◌<◌, ◌≤◌, ◌==◌, ◌∷◌, ◌++◌, true, length, slice_index};
+    ghost use Rattle.std.specs.Prelude.{◌≡◌, ◌≢◌, ℕ, ◌+◌, ◌*◌, ◌/◌, ◌<◌, ◌≤◌, ◌==◌, ◌∷◌, ◌++◌};
+    ghost use Rattle.std.specs.Prelude.{true, length, slice_index};
     ghost use Rattle.std.specs.Int.{bit_at};
     ghost use Rattle.kit_ground.specs.declared.address.Address.TheVariants.{Mail, Count, Part};
-    ghost use Rattle.kit_ground.specs.declared.place.Deed.TheVariants.{SawFree, Wrote, Charged, PostedTo, Collected, Released};
+    ghost use Rattle.kit_ground.specs.declared.place.Deed.TheVariants.{SawFree, Wrote, Charged};
+    ghost use Rattle.kit_ground.specs.declared.place.Deed.TheVariants.{PostedTo, Collected};
+    ghost use Rattle.kit_ground.specs.declared.place.Deed.TheVariants.{Released};
     ghost use Rattle.kit_ground.specs.Layout.{index_of, is_there, mail_words};
     ghost use Rattle.kit_ground.specs.Rules.{WasFound};
     ghost use Rattle.kit_ground.specs.Steps.{IsChargeable, IsMask, place_after, buffer_of};
@@ -98,22 +104,27 @@ impl TableSeat<Bare> {
     /// Where the word of an address stands in a pool.
     fn place_of(&self, address: Address) -> usize
         requires there { is_there self.now.federates self.now.buffers address ≡ true }
-        requires pool { 13 * self.now.federates + 1 ≤ index_of self.now.federates self.now.buffers address }
-        ensures { length (idle_registers self.now.federates) + result ≡ index_of self.now.federates self.now.buffers address }
+        requires pool { 13 * self.now.federates + 1 ≤ index_of self.now.federates self.now.buffers
+            address }
+        ensures { length (idle_registers self.now.federates) + result
+            ≡ index_of self.now.federates self.now.buffers address }
     {
         let federates = self.federates();
         address.index(federates, self.buffers()) - (13 * usize::from(federates) + 1)
     }
 
-    /// Whether the count of an own buffer was 0; then nobody reads it any more. No post of the buffer
-    /// may be owed.
+    /// Whether the count of an own buffer was 0; then nobody reads it any more. No post of the
+    /// buffer may be owed.
     pub fn look_free(&mut self, pool: &Pool, buffer: u16) -> bool
         requires seat { IsSeatOf pool.now self.old }
         requires buffer { buffer < (place_of self.old).own.buffers }
         requires posted { (buffer_of (place_of self.old).own.stock buffer).to_post ≡ 0 }
         ensures same { IsSameTableSeat self.old self.new }
-        ensures place { desk_of self.new ≡ place_after as_it_is (SawFree buffer result) (place_of self.old) ∷ others_with self.old }
-        ensures told { (count : ℕ) × WasFound bare_rule (place_of self.old) (Count (place_of self.old).own.number buffer) count × (result ≡ (count == 0)) }
+        ensures place { desk_of self.new
+            ≡ place_after as_it_is (SawFree buffer result)
+            (place_of self.old) ∷ others_with self.old }
+        ensures told { (count : ℕ) × WasFound bare_rule (place_of self.old)
+            (Count (place_of self.old).own.number buffer) count × (result ≡ (count == 0)) }
     {
         let owner = self.number();
         let address = Address::Count { owner, buffer };
@@ -129,8 +140,11 @@ impl TableSeat<Bare> {
         requires part { part < 2 }
         requires free { (buffer_of (place_of self.old).own.stock buffer).free ≡ true }
         ensures same { IsSameTableSeat self.old self.new }
-        ensures place { desk_of self.new ≡ place_after as_it_is (Wrote buffer part word) (place_of self.old) ∷ others_with self.old }
-        ensures told { (found : ℕ) × WasFound bare_rule (place_of self.old) (Part (place_of self.old).own.number buffer part) found }
+        ensures place { desk_of self.new
+            ≡ place_after as_it_is (Wrote buffer part word)
+            (place_of self.old) ∷ others_with self.old }
+        ensures told { (found : ℕ) × WasFound bare_rule (place_of self.old)
+            (Part (place_of self.old).own.number buffer part) found }
     {
         let owner = self.number();
         let address = Address::Part {
@@ -150,8 +164,11 @@ impl TableSeat<Bare> {
         requires ready { IsChargeable (place_of self.old).own buffer }
         requires mask { IsMask (place_of self.old).own mask }
         ensures same { IsSameTableSeat self.old self.new }
-        ensures place { desk_of self.new ≡ place_after as_it_is (Charged buffer mask) (place_of self.old) ∷ others_with self.old }
-        ensures told { (count : ℕ) × WasFound bare_rule (place_of self.old) (Count (place_of self.old).own.number buffer) count }
+        ensures place { desk_of self.new
+            ≡ place_after as_it_is (Charged buffer mask)
+            (place_of self.old) ∷ others_with self.old }
+        ensures told { (count : ℕ) × WasFound bare_rule (place_of self.old)
+            (Count (place_of self.old).own.number buffer) count }
     {
         let owner = self.number();
         let more = readers(mask);
@@ -168,8 +185,10 @@ impl TableSeat<Bare> {
         requires to { to < (place_of self.old).own.federates }
         requires owed { bit_at (buffer_of (place_of self.old).own.stock buffer).to_post to ≡ 1 }
         ensures same { IsSameTableSeat self.old self.new }
-        ensures place { desk_of self.new ≡ place_after as_it_is (PostedTo buffer to) (place_of self.old) ∷ others_with self.old }
-        ensures told { (mail : ℕ) × WasFound bare_rule (place_of self.old) (Mail to (place_of self.old).own.number (buffer / 64)) mail }
+        ensures place { desk_of self.new
+            ≡ place_after as_it_is (PostedTo buffer to) (place_of self.old) ∷ others_with self.old }
+        ensures told { (mail : ℕ) × WasFound bare_rule (place_of self.old)
+            (Mail to (place_of self.old).own.number (buffer / 64)) mail }
     {
         let from = self.number();
         let word = mail_word(buffer);
@@ -188,8 +207,11 @@ impl TableSeat<Bare> {
         requires other { from ≢ (place_of self.old).own.number }
         requires word { word < mail_words (place_of self.old).own.buffers }
         ensures same { IsSameTableSeat self.old self.new }
-        ensures place { desk_of self.new ≡ place_after as_it_is (Collected from word result) (place_of self.old) ∷ others_with self.old }
-        ensures told { WasFound bare_rule (place_of self.old) (Mail (place_of self.old).own.number from word) result }
+        ensures place { desk_of self.new
+            ≡ place_after as_it_is (Collected from word result)
+            (place_of self.old) ∷ others_with self.old }
+        ensures told { WasFound bare_rule (place_of self.old)
+            (Mail (place_of self.old).own.number from word) result }
     {
         let to = self.number();
         let address = Address::Mail { to, from, word };
@@ -209,8 +231,11 @@ impl TableSeat<Bare> {
         requires buffer { buffer < (place_of self.old).own.buffers }
         requires held { bit_at (slice_index (place_of self.old).own.stock.holds from) buffer ≡ 1 }
         ensures same { IsSameTableSeat self.old self.new }
-        ensures place { desk_of self.new ≡ place_after as_it_is (Released from buffer) (place_of self.old) ∷ others_with self.old }
-        ensures told { (count : ℕ) × WasFound bare_rule (place_of self.old) (Count from buffer) count }
+        ensures place { desk_of self.new
+            ≡ place_after as_it_is (Released from buffer)
+            (place_of self.old) ∷ others_with self.old }
+        ensures told { (count : ℕ) × WasFound bare_rule (place_of self.old)
+            (Count from buffer) count }
     {
         let address = Address::Count {
             owner: from,
@@ -221,8 +246,8 @@ impl TableSeat<Bare> {
         self.take_one::<Registers, Brand, Unmoved>(&pool.table, at, address, about);
     }
 
-    /// Takes another seat in, and keeps its federate's place behind its own. The other's view stands
-    /// as spent.
+    /// Takes another seat in, and keeps its federate's place behind its own. The other's view
+    /// stands as spent.
     pub fn join(&mut self, pool: &Pool, other: PoolSeat)
         requires seat { IsSeatOf pool.now self.old }
         requires other { IsSeatOf pool.now other }

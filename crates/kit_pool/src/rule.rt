@@ -34,9 +34,11 @@ impl<P: Protocol, F: Front> TableRule<(), LinkedList<Place<P::View>>, Laid<P::Op
     ghost use Rattle.kit_ground.specs.Rules.{places_from};
     ghost use Rattle.kit_pool.specs.Seating.{TableHolds};
 
-    ghost holds = { λ k s. TableHolds P.rule k.federates k.buffers (F.front k.federates) s.words s.views };
+    ghost holds = { λ k s. TableHolds P.rule k.federates k.buffers
+        (F.front k.federates) s.words s.views };
 
-    ghost first = { λ k. places_from (P.first k.opening.value) k.federates k.buffers 0 (k.federates + k.guests) };
+    ghost first = { λ k. places_from (P.first k.opening.value) k.federates k.buffers 0
+        (k.federates + k.guests) };
 }
 
 /// A table under both rules, whose words stand behind those in front.

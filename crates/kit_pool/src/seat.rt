@@ -29,7 +29,8 @@ pub struct TableSeat<P: Protocol> {
 }
 
 impl<P: Protocol> TableSeat<P> {
-    ghost use Rattle.std.specs.Prelude.{◌≡◌, ℕ, ◌+◌, ◌-◌, ◌<◌, ◌≤◌, ◌%◌, ◌^◌, [], ◌∷◌, ◌++◌, bit_or, length};
+    ghost use Rattle.std.specs.Prelude.{◌≡◌, ℕ, ◌+◌, ◌-◌, ◌<◌, ◌≤◌, ◌%◌, ◌^◌, [], ◌∷◌, ◌++◌};
+    ghost use Rattle.std.specs.Prelude.{bit_or, length};
     ghost use Rattle.kit_ground.specs.Layout.{index_of};
     ghost use Rattle.kit_ground.specs.Rules.{WasFound};
     ghost use Rattle.kit_ground.specs.Steps.{place_after};
@@ -37,7 +38,8 @@ impl<P: Protocol> TableSeat<P> {
     ghost use Rattle.kit_pool.specs.GuestViews.{guest_desk_of};
     ghost use Rattle.kit_pool.specs.Seating.{Plans};
     ghost use Rattle.kit_pool.specs.Seats.{IsSized, IsWithin};
-    ghost use Rattle.kit_pool.specs.SeatViews.{IsNewSeatOn, IsSameTableSeat, IsSeatOn, desk_of, others_with, place_on};
+    ghost use Rattle.kit_pool.specs.SeatViews.{IsNewSeatOn, IsSameTableSeat, IsSeatOn, desk_of};
+    ghost use Rattle.kit_pool.specs.SeatViews.{others_with, place_on};
 
     /// The number of the seat's federate.
     pub fn number(&self) -> u8
@@ -69,11 +71,16 @@ impl<P: Protocol> TableSeat<P> {
         _about: Deed,
     ) -> u64
         requires seat { IsSeatOn table.now.shared self.old }
-        requires sized { IsSized (F.front self.old.federates) self.old.federates self.old.buffers table.now.shared.table_id }
-        requires at { length (F.front self.old.federates) + at ≡ index_of self.old.federates self.old.buffers address }
-        requires plan { Plans P.rule E.next (place_on P.first table.now.shared self.old) address (λ n. n) D.deed }
+        requires sized { IsSized (F.front self.old.federates) self.old.federates self.old.buffers
+            table.now.shared.table_id }
+        requires at { length (F.front self.old.federates) + at
+            ≡ index_of self.old.federates self.old.buffers address }
+        requires plan { Plans P.rule E.next (place_on P.first table.now.shared self.old) address
+            (λ n. n) D.deed }
         ensures same { IsSameTableSeat self.old self.new }
-        ensures place { desk_of self.new ≡ place_after E.next (D.deed result) (place_on P.first table.now.shared self.old) ∷ others_with self.old }
+        ensures place { desk_of self.new
+            ≡ place_after E.next (D.deed result)
+            (place_on P.first table.now.shared self.old) ∷ others_with self.old }
         ensures told { WasFound P.rule (place_on P.first table.now.shared self.old) address result }
     {
         let seat = &mut self.seat;
@@ -89,11 +96,16 @@ impl<P: Protocol> TableSeat<P> {
         _about: Deed,
     ) -> u64
         requires seat { IsSeatOn table.now.shared self.old }
-        requires sized { IsSized (F.front self.old.federates) self.old.federates self.old.buffers table.now.shared.table_id }
-        requires at { length (F.front self.old.federates) + at ≡ index_of self.old.federates self.old.buffers address }
-        requires plan { Plans P.rule E.next (place_on P.first table.now.shared self.old) address (λ _. 0) D.deed }
+        requires sized { IsSized (F.front self.old.federates) self.old.federates self.old.buffers
+            table.now.shared.table_id }
+        requires at { length (F.front self.old.federates) + at
+            ≡ index_of self.old.federates self.old.buffers address }
+        requires plan { Plans P.rule E.next (place_on P.first table.now.shared self.old) address
+            (λ _. 0) D.deed }
         ensures same { IsSameTableSeat self.old self.new }
-        ensures place { desk_of self.new ≡ place_after E.next (D.deed result) (place_on P.first table.now.shared self.old) ∷ others_with self.old }
+        ensures place { desk_of self.new
+            ≡ place_after E.next (D.deed result)
+            (place_on P.first table.now.shared self.old) ∷ others_with self.old }
         ensures told { WasFound P.rule (place_on P.first table.now.shared self.old) address result }
     {
         let seat = &mut self.seat;
@@ -110,11 +122,16 @@ impl<P: Protocol> TableSeat<P> {
         _about: Deed,
     ) -> u64
         requires seat { IsSeatOn table.now.shared self.old }
-        requires sized { IsSized (F.front self.old.federates) self.old.federates self.old.buffers table.now.shared.table_id }
-        requires at { length (F.front self.old.federates) + at ≡ index_of self.old.federates self.old.buffers address }
-        requires plan { Plans P.rule E.next (place_on P.first table.now.shared self.old) address (λ n. (n + more) % 2 ^ 64) D.deed }
+        requires sized { IsSized (F.front self.old.federates) self.old.federates self.old.buffers
+            table.now.shared.table_id }
+        requires at { length (F.front self.old.federates) + at
+            ≡ index_of self.old.federates self.old.buffers address }
+        requires plan { Plans P.rule E.next (place_on P.first table.now.shared self.old) address
+            (λ n. (n + more) % 2 ^ 64) D.deed }
         ensures same { IsSameTableSeat self.old self.new }
-        ensures place { desk_of self.new ≡ place_after E.next (D.deed result) (place_on P.first table.now.shared self.old) ∷ others_with self.old }
+        ensures place { desk_of self.new
+            ≡ place_after E.next (D.deed result)
+            (place_on P.first table.now.shared self.old) ∷ others_with self.old }
         ensures told { WasFound P.rule (place_on P.first table.now.shared self.old) address result }
     {
         let seat = &mut self.seat;
@@ -130,11 +147,16 @@ impl<P: Protocol> TableSeat<P> {
         _about: Deed,
     ) -> u64
         requires seat { IsSeatOn table.now.shared self.old }
-        requires sized { IsSized (F.front self.old.federates) self.old.federates self.old.buffers table.now.shared.table_id }
-        requires at { length (F.front self.old.federates) + at ≡ index_of self.old.federates self.old.buffers address }
-        requires plan { Plans P.rule E.next (place_on P.first table.now.shared self.old) address (λ n. (n + (2 ^ 64 - 1)) % 2 ^ 64) D.deed }
+        requires sized { IsSized (F.front self.old.federates) self.old.federates self.old.buffers
+            table.now.shared.table_id }
+        requires at { length (F.front self.old.federates) + at
+            ≡ index_of self.old.federates self.old.buffers address }
+        requires plan { Plans P.rule E.next (place_on P.first table.now.shared self.old) address
+            (λ n. (n + (2 ^ 64 - 1)) % 2 ^ 64) D.deed }
         ensures same { IsSameTableSeat self.old self.new }
-        ensures place { desk_of self.new ≡ place_after E.next (D.deed result) (place_on P.first table.now.shared self.old) ∷ others_with self.old }
+        ensures place { desk_of self.new
+            ≡ place_after E.next (D.deed result)
+            (place_on P.first table.now.shared self.old) ∷ others_with self.old }
         ensures told { WasFound P.rule (place_on P.first table.now.shared self.old) address result }
     {
         let seat = &mut self.seat;
@@ -151,11 +173,16 @@ impl<P: Protocol> TableSeat<P> {
         _about: Deed,
     ) -> u64
         requires seat { IsSeatOn table.now.shared self.old }
-        requires sized { IsSized (F.front self.old.federates) self.old.federates self.old.buffers table.now.shared.table_id }
-        requires at { length (F.front self.old.federates) + at ≡ index_of self.old.federates self.old.buffers address }
-        requires plan { Plans P.rule E.next (place_on P.first table.now.shared self.old) address (λ n. bit_or n bits) D.deed }
+        requires sized { IsSized (F.front self.old.federates) self.old.federates self.old.buffers
+            table.now.shared.table_id }
+        requires at { length (F.front self.old.federates) + at
+            ≡ index_of self.old.federates self.old.buffers address }
+        requires plan { Plans P.rule E.next (place_on P.first table.now.shared self.old) address
+            (λ n. bit_or n bits) D.deed }
         ensures same { IsSameTableSeat self.old self.new }
-        ensures place { desk_of self.new ≡ place_after E.next (D.deed result) (place_on P.first table.now.shared self.old) ∷ others_with self.old }
+        ensures place { desk_of self.new
+            ≡ place_after E.next (D.deed result)
+            (place_on P.first table.now.shared self.old) ∷ others_with self.old }
         ensures told { WasFound P.rule (place_on P.first table.now.shared self.old) address result }
     {
         let seat = &mut self.seat;
@@ -172,12 +199,18 @@ impl<P: Protocol> TableSeat<P> {
         _about: Deed,
     )
         requires seat { IsSeatOn table.now.shared self.old }
-        requires sized { IsSized (F.front self.old.federates) self.old.federates self.old.buffers table.now.shared.table_id }
-        requires at { length (F.front self.old.federates) + at ≡ index_of self.old.federates self.old.buffers address }
-        requires plan { Plans P.rule E.next (place_on P.first table.now.shared self.old) address (λ _. word) (λ _. D.deed word) }
+        requires sized { IsSized (F.front self.old.federates) self.old.federates self.old.buffers
+            table.now.shared.table_id }
+        requires at { length (F.front self.old.federates) + at
+            ≡ index_of self.old.federates self.old.buffers address }
+        requires plan { Plans P.rule E.next (place_on P.first table.now.shared self.old) address
+            (λ _. word) (λ _. D.deed word) }
         ensures same { IsSameTableSeat self.old self.new }
-        ensures place { desk_of self.new ≡ place_after E.next (D.deed word) (place_on P.first table.now.shared self.old) ∷ others_with self.old }
-        ensures told { (found : ℕ) × WasFound P.rule (place_on P.first table.now.shared self.old) address found }
+        ensures place { desk_of self.new
+            ≡ place_after E.next (D.deed word)
+            (place_on P.first table.now.shared self.old) ∷ others_with self.old }
+        ensures told { (found : ℕ) × WasFound P.rule
+            (place_on P.first table.now.shared self.old) address found }
     {
         let seat = &mut self.seat;
         table.shared.store::<Stores<P, E, D>>(seat, at, word);
@@ -231,8 +264,8 @@ impl<P: Protocol> TableSeat<P> {
         seat
     }
 
-    /// The first of the places that are still to be dealt, of as many as there are in all, goes to a
-    /// seat of its own.
+    /// The first of the places that are still to be dealt, of as many as there are in all, goes to
+    /// a seat of its own.
     pub(crate) fn part<F: Front>(
         table: &SeatingTable<P, F>,
         rest: &mut Seat<(), LinkedList<Place<P::View>>>,

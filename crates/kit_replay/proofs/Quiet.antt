@@ -32,7 +32,7 @@ use Rattle.kit_lbts.specs.Letters.{letter_in}
 use Rattle.kit_lbts.specs.Promises.{bound_of}
 use Rattle.kit_lbts.specs.Rule.{FederateRule}
 use Rattle.kit_lbts.specs.Views.{entries_of, filled_in}
-use Rattle.kit_lbts.specs.Ways.{copies_on_way, marked}
+use Rattle.kit_lbts.specs.Ways.{copies_on_way, mark_in_mail}
 use Rattle.kit_lbts.proofs.Copies.{contains_filter}
 use Rattle.kit_lbts.proofs.GrantAgreement.{without_agreement}
 use Rattle.kit_lbts.proofs.Moments.{known_bounds_are_bounds}
@@ -99,20 +99,20 @@ module _ (m : Memory) (places : List P) (b : ℕ) (floor : FloorHolds b m places
         let e = letter_time p.client.federation p.client.state.sends (filled_in p.client k) ((of j p atj).sends.once.sent k) in
         let b = past_end in omega arith
 
-    late : All (λ (x : Message). bound_of p.client ≤ x.time) (messages_on_way (letter_in p.client) (copies_on_way (marked m j i) j q.client.in_hand) p.own.buffers)
+    late : All (λ (x : Message). bound_of p.client ≤ x.time) (messages_on_way (letter_in p.client) (copies_on_way (mark_in_mail m j i) j q.client.in_hand) p.own.buffers)
     late =
         let w = world_at j p atj in
         let bounded = known_bounds_are_bounds p m places (without_agreement p m places w) rule.agree in
         let f : Parts = p.client.federation in
         let lj : j < length f.federates = within m places rule j p atj in
         let li : i < length f.federates = let n = rule.floor.common.many in let e = ap (λ (x : Parts). length x.federates) (rule.floor.common.each j p atj).0 in let k = at_inside places i q ati in omega arith in
-        let B : P → P → Type 0 = λ s u. All (λ (x : Message). bound_of p.client ≤ x.time) (messages_on_way (letter_in s.client) (copies_on_way (marked m j i) j u.client.in_hand) s.own.buffers) in
+        let B : P → P → Type 0 = λ s u. All (λ (x : Message). bound_of p.client ≤ x.time) (messages_on_way (letter_in s.client) (copies_on_way (mark_in_mail m j i) j u.client.in_hand) s.own.buffers) in
         subst (λ (u : P). B p u) (read_at places i q p ati) (subst (λ (s : P). B s (place_at p places i)) (read_at places j p p atj) (bounded.transit_late j i lj li))
 
-    none_marked : (k : ℕ) → k < b → marked m j i k ≡ 0
+    none_marked : (k : ℕ) → k < b → mark_in_mail m j i k ≡ 0
     none_marked k lk =
         let fits = (floor.each j p atj).buffers in
-        let n = none_on_way (λ (x : Message). bound_of p.client ≤ x.time) (letter_in p.client) (copies_on_way (marked m j i) j q.client.in_hand) p.own.buffers late letters_early k (omega arith) in
+        let n = none_on_way (λ (x : Message). bound_of p.client ≤ x.time) (letter_in p.client) (copies_on_way (mark_in_mail m j i) j q.client.in_hand) p.own.buffers late letters_early k (omega arith) in
         omega arith
 
   -- the mail of i from j is 0
@@ -141,7 +141,7 @@ module _ (m : Memory) (places : List P) (b : ℕ) (floor : FloorHolds b m places
       let s = letters.sending k (letters.others k owed) in
       let e : [] ≡ s.first ∷ s.rest = sym (done i q ati).sent ∙ s.outbox in absurd (let l = ap length e in omega arith)) in
       let a : bit_at (buffer_of (stock_at (map stock_of places) i) k).to_post j ≡ 0 = ap (λ (x : SeatBuffers). bit_at (buffer_of x k).to_post j) seller ∙ (ap (λ (x : ℕ). bit_at x j) none_owed ∙ bit_at-zero j) in
-      let c : marked m i j k ≡ 0 = none_marked i j q p ati atj k lk in
+      let c : mark_in_mail m i j k ≡ 0 = none_marked i j q p ati atj k lk in
       let fits = floor.each j p atj in
       let h : bit_at (slice_index (stock_at (map stock_of places) j).holds i) k ≡ 0 =
       ap (λ (x : SeatBuffers). bit_at (slice_index x.holds i) k) reader

@@ -16,7 +16,7 @@ use Rattle.kit_lbts.specs.declared.view.LbtsView.{LbtsView}
 use Rattle.kit_lbts.specs.declared.view.Filled.{Filled}
 use Rattle.kit_lbts.specs.declared.view.Noted.{Noted}
 use Rattle.kit_lbts.specs.Agreement.{AgreeingRule, agreeing_rule, blocks_in}
-use Rattle.kit_lbts.specs.Views.{delivered, delivery_of, entries_of, receipt_of, receipts_in, received}
+use Rattle.kit_lbts.specs.Views.{messages_delivered, delivery_of, entries_of, receipt_of, receipts_in, messages_received}
 use Rattle.kit_lbts.proofs.Copies.{contains_map, map_contains}
 use Rattle.kit_lbts.proofs.Worlds.{blocks_are_a_front, delivered_was_received, journals_are_lawful}
 use Rattle.kit_node.specs.declared.ends.NodeEnd.{NodeEnd}
@@ -45,10 +45,10 @@ receipt_is (Delivered granted m) colour f e = cc
 receipt_is (Granted t) colour f e = cc
 
 -- a delivery has its receipt
-pub receipts_come : (v : LbtsView) → All (Contains (received v)) (delivered v) → (t : ℕ) (m : Message) → Contains (entries_of v) (Delivered t m) → Contains (entries_of v) (Received m)
+pub receipts_come : (v : LbtsView) → All (Contains (messages_received v)) (messages_delivered v) → (t : ℕ) (m : Message) → Contains (entries_of v) (Delivered t m) → Contains (entries_of v) (Received m)
 receipts_come v all t m c =
-    let d : Contains (delivered v) m = found_into delivery_of (entries_of v) (Delivered t m) m refl c in
-    let r : Contains (received v) m = All-contains (Contains (received v)) (delivered v) m all d in
+    let d : Contains (messages_delivered v) m = found_into delivery_of (entries_of v) (Delivered t m) m refl c in
+    let r : Contains (messages_received v) m = All-contains (Contains (messages_received v)) (messages_delivered v) m all d in
     let s = map_contains (λ (f : Filled). f.message) (receipts_in v.journal) m r in
     let u = found_from (λ (e : Noted). receipt_of e.entry e.colour) v.journal s.0 s.1 in
     subst (Contains (entries_of v)) (receipt_is u.0.entry u.0.colour s.0 u.2 ∙ ap Received s.2) (contains_map (λ (e : Noted). e.entry) v.journal u.0 u.1)

@@ -2,7 +2,8 @@
 
 ghost use Rattle.kit_replay.specs.Parts.{WholePartsMerge};
 
-/// The whole parts of a federation's federates, merged, are the sequential simulation, with its text.
+/// The whole parts of a federation's federates, merged, are the sequential simulation, with its
+/// text.
 pub fn whole_parts_merge()
     ensures { WholePartsMerge }
 {}

@@ -1,8 +1,10 @@
-ghost use Rattle.std.specs.Prelude.{◌≡◌, ◌^◌, ◌≤◌, ◌<◌, ◌++◌, ◌∷◌, [], ℕ, List, length, vec_capacity, IfOk, None, Some};
+ghost use Rattle.std.specs.Prelude.{◌≡◌, ◌^◌, ◌≤◌, ◌<◌, ◌++◌, ◌∷◌, [], ℕ, List, length};
+ghost use Rattle.std.specs.Prelude.{vec_capacity, IfOk, None, Some};
 ghost use Rattle.kit_ground.specs.Floors.{RulesHold};
 ghost use Rattle.kit_lbts.specs.Agreement.{agreeing_rule};
 ghost use Rattle.kit_node.specs.Ends.{end_by as node_end_by};
-ghost use Rattle.kit_replay.specs.Stages.{AreReported, ClosesWith, GoesOn, IsNewFloor, IsStage, RunsTo, TurnsTo, end_by};
+ghost use Rattle.kit_replay.specs.Stages.{AreReported, ClosesWith, GoesOn, IsNewFloor, IsStage};
+ghost use Rattle.kit_replay.specs.Stages.{RunsTo, TurnsTo, end_by};
 
 use crate::Replayed;
 use kit_ground::PlainFloor;
@@ -49,7 +51,8 @@ impl Stage {
     /// Gives a turn to the federate of each entry, up to the first bad end, which it answers.
     pub(crate) fn run(&mut self, federation: &Federation, schedule: &[u8]) -> Option<End>
         requires { GoesOn federation.now self.old }
-        ensures { (limit : ℕ) → IsStage federation.now limit [] None self.old → RunsTo federation.now limit schedule.now result self.new }
+        ensures { (limit : ℕ) → IsStage federation.now limit [] None self.old
+            → RunsTo federation.now limit schedule.now result self.new }
     {
         for federate in schedule {
             if let Some(end) = self.give_turn(federation, *federate) {
@@ -62,7 +65,8 @@ impl Stage {
     /// Gives a federate a turn, if there is such a federate, and answers its bad end.
     fn give_turn(&mut self, federation: &Federation, federate: u8) -> Option<End>
         requires { GoesOn federation.now self.old }
-        ensures { (limit : ℕ) (taken : List ℕ) → IsStage federation.now limit taken None self.old → TurnsTo federation.now limit (taken ++ federate ∷ []) result self.new }
+        ensures { (limit : ℕ) (taken : List ℕ) → IsStage federation.now limit taken None self.old
+            → TurnsTo federation.now limit (taken ++ federate ∷ []) result self.new }
     {
         let node = self.nodes.get_mut(usize::from(federate))?;
         self.floor.seat(federate);

@@ -1,7 +1,8 @@
 ghost use Rattle.std.specs.Prelude.{◌≡◌, ◌<◌, ◌≤◌, ◌^◌, OnOk, OnErr, All};
 ghost use Rattle.kit_rules.specs.Limits.{most_time, most_vars};
 ghost use Rattle.kit_rules.specs.Federation.{IsOperand, IsCond, IsAction};
-ghost use Rattle.kit_rules.specs.Step.{value_of, compares, condition_holds, conditions_hold, after_action};
+ghost use Rattle.kit_rules.specs.Step.{value_of, compares, condition_holds, conditions_hold};
+ghost use Rattle.kit_rules.specs.Step.{after_action};
 
 use crate::{Action, ApplyEnd, Compare, Cond, FedState, Operand, Scene, Wish};
 use kit_base::{Kind, Message};
@@ -71,8 +72,10 @@ fn send(
     keep: Option<u8>,
 ) -> Result<(), ApplyEnd>
     requires time { scene.now.time ≤ most_time }
-    requires fits { IsAction 256 most_vars (Some scene.now.lookahead) (Action.Send group delay value keep) }
-    ensures ok { OnOk result (state.new ≡ after_action scene.now state.old (Action.Send group delay value keep)) }
+    requires fits { IsAction 256 most_vars (Some scene.now.lookahead)
+        (Action.Send group delay value keep) }
+    ensures ok { OnOk result (state.new
+        ≡ after_action scene.now state.old (Action.Send group delay value keep)) }
     ensures err { OnErr result (state.new ≡ state.old) }
     ensures spent { result ≡ Err ApplyEnd.SendsSpent → 16384 < state.old.next }
     ensures room { OnOk result (state.old.next ≤ 16384) }
@@ -99,7 +102,8 @@ pub(crate) fn act(scene: &Scene, state: &mut FedState, action: Action) -> Result
     requires fits { IsAction 256 most_vars (Some scene.now.lookahead) action }
     ensures ok { OnOk result (state.new ≡ after_action scene.now state.old action) }
     ensures err { OnErr result (state.new ≡ state.old) }
-    ensures spent { result ≡ Err ApplyEnd.SendsSpent → 16385 < (after_action scene.now state.old action).next }
+    ensures spent { result ≡ Err ApplyEnd.SendsSpent
+        → 16385 < (after_action scene.now state.old action).next }
     ensures room { OnOk result (state.old.next ≤ 16385 → state.new.next ≤ 16385) }
 {
     match action {

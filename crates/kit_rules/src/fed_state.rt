@@ -1,9 +1,11 @@
-ghost use Rattle.std.specs.Prelude.{◌≡◌, ℕ, true, false, ◌<◌, ◌≤◌, ◌+◌, [], ◌∷◌, ◌++◌, length, take, drop, slice_index, slice_set, OnOk, OnErr, All};
+ghost use Rattle.std.specs.Prelude.{◌≡◌, ℕ, true, false, ◌<◌, ◌≤◌, ◌+◌, [], ◌∷◌, ◌++◌, length};
+ghost use Rattle.std.specs.Prelude.{take, drop, slice_index, slice_set, OnOk, OnErr, All};
 ghost use Rattle.std.specs.List.{list_any};
 ghost use Rattle.kit_rules.specs.Limits.{most_time, most_vars};
 ghost use Rattle.kit_rules.specs.Parts.{federate_at};
 ghost use Rattle.kit_rules.specs.Running.{ComesTo};
-ghost use Rattle.kit_rules.specs.Step.{is_event, takes_back, after_action, after_rules, CanRun, opening_state, opening_vars};
+ghost use Rattle.kit_rules.specs.Step.{is_event, takes_back, after_action, after_rules, CanRun};
+ghost use Rattle.kit_rules.specs.Step.{opening_state, opening_vars};
 
 use crate::marks::target;
 use crate::running::apply_rules;
@@ -12,8 +14,8 @@ use kit_base::{Items, Kind, Message};
 use std::alloc::Global;
 use std::marker::Model;
 
-/// The state of a federate, which contracts see as a [`State`]: its variables, wish, next number and
-/// sends. Send `k`, counted from 0, has number `k + 1`.
+/// The state of a federate, which contracts see as a [`State`]: its variables, wish, next number
+/// and sends. Send `k`, counted from 0, has number `k + 1`.
 #[derive(Debug, Drop)]
 pub struct FedState {
     state: State,
@@ -35,8 +37,8 @@ impl Model for FedState {
 }
 
 impl FedState {
-    /// The state before anything ran: the variables and the wish of the table, and no sends. It takes
-    /// no memory.
+    /// The state before anything ran: the variables and the wish of the table, and no sends. It
+    /// takes no memory.
     pub fn new(alloc: Global, federation: &Federation, federate: u8) -> FedState
         requires { federate < length federation.now.federates }
         ensures { result ≡ opening_state (federate_at federation.now federate) }
@@ -76,7 +78,8 @@ impl FedState {
         self.state.next
     }
 
-    /// Does nothing: it says that the next number is one more than were sent, and no more than 16,385.
+    /// Does nothing: it says that the next number is one more than were sent, and no more than
+    /// 16,385.
     pub fn keeps_its_count(&self)
         ensures counted { self.now.next ≡ length self.now.sends + 1 }
         ensures room { self.now.next ≤ 16385 }
@@ -112,7 +115,8 @@ impl FedState {
     pub(crate) fn add_event(&mut self, message: Message) -> Result<(), ApplyEnd>
         requires event { is_event message.kind ≡ true }
         requires number { message.number ≡ self.old.next }
-        ensures ok { OnOk result (self.new ≡ record self.old { next = self.old.next + 1; sends = self.old.sends ++ message ∷ [] }) }
+        ensures ok { OnOk result (self.new
+            ≡ record self.old { next = self.old.next + 1; sends = self.old.sends ++ message ∷ [] }) }
         ensures err { OnErr result (self.new ≡ self.old) }
         ensures spent { result ≡ Err ApplyEnd.SendsSpent → 16384 < self.old.next }
         ensures room { OnOk result (self.old.next ≤ 16384) }
@@ -127,7 +131,8 @@ impl FedState {
         requires low { 1 ≤ message.value }
         requires high { message.value ≤ length self.old.sends }
         requires first { list_any (takes_back message.value) self.old.sends ≡ false }
-        ensures ok { OnOk result (self.new ≡ record self.old { next = self.old.next + 1; sends = self.old.sends ++ message ∷ [] }) }
+        ensures ok { OnOk result (self.new
+            ≡ record self.old { next = self.old.next + 1; sends = self.old.sends ++ message ∷ [] }) }
         ensures err { OnErr result (self.new ≡ self.old) }
         ensures spent { result ≡ Err ApplyEnd.SendsSpent → 16384 < self.old.next }
         ensures room { OnOk result (self.old.next ≤ 16384) }
@@ -143,7 +148,8 @@ impl FedState {
         requires fits { var < most_vars }
         ensures ok { OnOk result (self.new ≡ after_action scene.now self.old (Action.Retract var)) }
         ensures err { OnErr result (self.new ≡ self.old) }
-        ensures spent { result ≡ Err ApplyEnd.SendsSpent → 16385 < (after_action scene.now self.old (Action.Retract var)).next }
+        ensures spent { result ≡ Err ApplyEnd.SendsSpent
+            → 16385 < (after_action scene.now self.old (Action.Retract var)).next }
         ensures room { OnOk result (self.old.next ≤ 16385 → self.new.next ≤ 16385) }
     {
         let number = self.state.vars[var as usize];
@@ -202,7 +208,8 @@ impl FedState {
 /// Adds a message if a number is left, and sees that there is a mark for its number.
 fn emit(state: &mut State, marks: &mut Vec<u16>, message: Message) -> Result<(), ApplyEnd>
     requires { length state.old.sends ≤ length marks.old.items }
-    ensures ok { OnOk result (state.new ≡ record state.old { next = state.old.next + 1; sends = state.old.sends ++ message ∷ [] }) }
+    ensures ok { OnOk result (state.new
+        ≡ record state.old { next = state.old.next + 1; sends = state.old.sends ++ message ∷ [] }) }
     ensures err { OnErr result (state.new ≡ state.old) }
     ensures longer { length marks.old.items ≤ length marks.new.items }
     ensures marked { OnOk result (length state.new.sends ≤ length marks.new.items) }

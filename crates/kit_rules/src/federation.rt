@@ -22,24 +22,34 @@ impl Model for Federation {
 
     ghost Value = { Parts };
 
-    ghost view = { λ f. record { end = f.end; buffers = f.buffers; groups = f.groups; federates = f.federates } };
+    ghost view = { λ f. record {
+      end = f.end;
+      buffers = f.buffers;
+      groups = f.groups;
+      federates = f.federates;
+    } };
 
     ghost use Rattle.kit_rules.specs.Federation.{IsFederation};
 
-    ghost invariant = { λ f. IsFederation (record { end = f.end; buffers = f.buffers; groups = f.groups; federates = f.federates }) };
+    ghost invariant = { λ f. IsFederation
+        (record { end = f.end; buffers = f.buffers; groups = f.groups; federates = f.federates }) };
 }
 
 impl Federation {
     /// The federation with these parts, which have to keep the limits.
     ///
     /// - The end time is from 1 to 100,000, and each federate has from 1 to 1,024 buffers.
-    /// - There are 1 to 16 federates and 0 to 32 groups. A federate has 0 to 8 variables and 0 to 64
+    /// - There are 1 to 16 federates and 0 to 32 groups. A federate has 0 to 8 variables and 0 to
+    /// 64
     ///   rules, and a rule 0 to 8 conditions and 0 to 16 actions.
-    /// - A name has 1 to 16 ASCII letters, digits, `_` and `-`. The names of the federates differ from
+    /// - A name has 1 to 16 ASCII letters, digits, `_` and `-`. The names of the federates differ
+    /// from
     ///   each other, and so do those of the groups, and those of a federate's variables.
-    /// - A time-regulating federate has a lookahead. One that is not has none, and its rules have no Send
+    /// - A time-regulating federate has a lookahead. One that is not has none, and its rules have
+    /// no Send
     ///   and no Retract.
-    /// - Lookahead and steps are from 1 to 100,000, and a delay from the sender's lookahead to 100,000.
+    /// - Lookahead and steps are from 1 to 100,000, and a delay from the sender's lookahead to
+    /// 100,000.
     /// - The members of a group are federates, and rules name variables and groups that are there.
     pub fn new(
         end: u64,
@@ -47,8 +57,14 @@ impl Federation {
         groups: Items<Group>,
         federates: Items<Federate>,
     ) -> Federation
-        requires { IsFederation (record { end = end; buffers = buffers; groups = groups; federates = federates }) }
-        ensures { result ≡ record { end = end; buffers = buffers; groups = groups; federates = federates } }
+        requires { IsFederation (record
+            { end = end; buffers = buffers; groups = groups; federates = federates }) }
+        ensures { result ≡ record {
+          end = end;
+          buffers = buffers;
+          groups = groups;
+          federates = federates;
+        } }
     {
         Federation {
             end,
@@ -113,8 +129,8 @@ impl Federation {
         &self.federates.as_slice()[i as usize]
     }
 
-    /// How far past its time a federate sends nothing: its lookahead, or more than the end time where
-    /// it is not regulating.
+    /// How far past its time a federate sends nothing: its lookahead, or more than the end time
+    /// where it is not regulating.
     #[tactic(auto, unfolding(crate::specs::Parts::effective_lookahead))]
     pub fn effective_lookahead(&self, i: u8) -> u32
         requires { i < length self.now.federates }

@@ -1,6 +1,8 @@
-//! What lookahead means for what is sent, when requests are due, and what names are: each law is the contract of a function that does nothing.
+//! What lookahead means for what is sent, when requests are due, and what names are: each law is
+//! the contract of a function that does nothing.
 
-ghost use Rattle.kit_rules.specs.Laws.{DuesByTheLeast, LookaheadsArePositive, SendsKeepLookahead, OnlyRegulatingSend};
+ghost use Rattle.kit_rules.specs.Laws.{DuesByTheLeast, LookaheadsArePositive, SendsKeepLookahead};
+ghost use Rattle.kit_rules.specs.Laws.{OnlyRegulatingSend};
 ghost use Rattle.kit_rules.specs.Names.{NamesAreTested};
 
 /// The effective lookahead of each federate is at least 1: its lookahead, or one more than the end

@@ -1,5 +1,8 @@
-ghost use Rattle.std.specs.Prelude.{◌≡◌, ◌≢◌, ◌↔◌, ◌<◌, ◌≤◌, List, ℕ, IsTrue, IfSome, IsSomeAnd, All, AllPairs, length};
-ghost use Rattle.kit_rules.specs.Federation.{IsFederation, IsStep, IsWish, IsOperand, IsTrigger, IsCond, IsAction, IsRule, IsFederate, IsGroup, AreVars, AreGroups, AreFederates};
+ghost use Rattle.std.specs.Prelude.{◌≡◌, ◌≢◌, ◌↔◌, ◌<◌, ◌≤◌, List, ℕ, IsTrue, IfSome, IsSomeAnd};
+ghost use Rattle.std.specs.Prelude.{All, AllPairs, length};
+ghost use Rattle.kit_rules.specs.Federation.{IsFederation, IsStep, IsWish, IsOperand, IsTrigger};
+ghost use Rattle.kit_rules.specs.Federation.{IsCond, IsAction, IsRule, IsFederate, IsGroup};
+ghost use Rattle.kit_rules.specs.Federation.{AreVars, AreGroups, AreFederates};
 ghost use Rattle.kit_rules.specs.Limits.{most_federates};
 
 use crate::name::is_name;
@@ -190,7 +193,8 @@ fn are_vars(vars: &[Var]) -> bool
 }
 
 fn are_rules(groups: usize, federate: &Federate) -> bool
-    ensures { IsTrue result ↔ All (IsRule groups (length federate.now.vars) federate.now.lookahead) federate.now.rules }
+    ensures { IsTrue result ↔ All (IsRule groups (length federate.now.vars) federate.now.lookahead)
+        federate.now.rules }
 {
     let vars = federate.vars.len();
     federate
@@ -259,14 +263,16 @@ fn are_federates(groups: usize, federates: &[Federate]) -> bool
 ///   rules, and a rule 0 to 8 conditions and 0 to 16 actions.
 /// - A name has 1 to 16 ASCII letters, digits, `_` and `-`. The names of the federates differ from
 ///   each other, and so do those of the groups, and those of a federate's variables.
-/// - A time-regulating federate has a lookahead. One that is not has none, and its rules have no Send
+/// - A time-regulating federate has a lookahead. One that is not has none, and its rules have no
+/// Send
 ///   and no Retract.
 /// - Lookahead and steps are from 1 to 100,000, and a delay from the sender's lookahead to 100,000.
 /// - The members of a group are federates, and rules name variables and groups that are there.
 ///
 /// It takes no memory.
 pub fn obeys(end: u64, buffers: u16, groups: &[Group], federates: &[Federate]) -> bool
-    ensures { IsTrue result ↔ IsFederation (record { end = end; buffers = buffers; groups = groups.now; federates = federates.now }) }
+    ensures { IsTrue result ↔ IsFederation
+        (record { end = end; buffers = buffers; groups = groups.now; federates = federates.now }) }
 {
     is_step(end)
         && 1 <= buffers

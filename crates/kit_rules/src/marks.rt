@@ -1,6 +1,7 @@
 //! Which own message a Retraction may name, found by its number.
 
-ghost use Rattle.std.specs.Prelude.{◌≡◌, ◌<◌, ◌≤◌, ◌+◌, ◌^◌, ℕ, false, length, find, IfSome, slice_index_or};
+ghost use Rattle.std.specs.Prelude.{◌≡◌, ◌<◌, ◌≤◌, ◌+◌, ◌^◌, ℕ, false, length, find, IfSome};
+ghost use Rattle.std.specs.Prelude.{slice_index_or};
 ghost use Rattle.std.specs.List.{list_any};
 ghost use Rattle.kit_rules.specs.Step.{takes_back, is_target, no_message, AreMarked};
 
@@ -53,10 +54,12 @@ pub(crate) fn target(
     number: u32,
 ) -> Option<Message>
     requires time { scene.now.time < 2 ^ 32 }
-    requires numbered { (k : ℕ) → k < length sends.now → (slice_index_or sends.now k no_message).number ≡ k + 1 }
+    requires numbered { (k : ℕ) → k < length sends.now
+        → (slice_index_or sends.now k no_message).number ≡ k + 1 }
     requires marked { AreMarked sends.now marks.now }
     ensures first { result ≡ find (is_target scene.now sends.now number) sends.now }
-    ensures named { IfSome result (λ m. (1 ≤ m.number) × (m.number ≤ length sends.now) × (list_any (takes_back m.number) sends.now ≡ false)) }
+    ensures named { IfSome result (λ m. (1 ≤ m.number) × (m.number ≤ length sends.now)
+        × (list_any (takes_back m.number) sends.now ≡ false)) }
 {
     if number == 0 || sends.len() < number as usize {
         return None;

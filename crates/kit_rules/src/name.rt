@@ -30,7 +30,8 @@ fn are_name_bytes(bytes: &[u8]) -> bool
     bytes.iter().all(|b| is_name_byte(*b))
 }
 
-/// Whether bytes have the form of a name in a federation: 1 to 16 ASCII letters, digits, `_` and `-`.
+/// Whether bytes have the form of a name in a federation: 1 to 16 ASCII letters, digits, `_` and
+/// `-`.
 pub fn is_name(bytes: &[u8]) -> bool
     ensures value { result ≡ is_name bytes.now }
     ensures form { IsTrue result ↔ IsName bytes.now }

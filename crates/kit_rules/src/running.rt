@@ -65,14 +65,14 @@ pub(crate) fn apply_rules(
     Ok(())
 }
 
-/// Applies the rules of a trigger to a federate's state, at its logical time `now`, and adds the messages
-/// that they send to `sends`, in the order of their numbers, transported or not.
+/// Applies the rules of a trigger to a federate's state, at its logical time `now`, and adds the
+/// messages that they send to `sends`, in the order of their numbers, transported or not.
 ///
-/// The rules go in the order of the table. A rule's conditions are read when its turn comes, and if all
-/// hold its actions are done in order. `value` is that of the message that was delivered, or 0.
+/// The rules go in the order of the table. A rule's conditions are read when its turn comes, and if
+/// all hold its actions are done in order. `value` is that of the message that was delivered, or 0.
 ///
-/// A federate has numbers up to 16,384, and a send or Retraction beyond them refuses the whole step.
-/// Nothing else refuses one but want of memory.
+/// A federate has numbers up to 16,384, and a send or Retraction beyond them refuses the whole
+/// step. Nothing else refuses one but want of memory.
 pub fn apply(
     federation: &Federation,
     federate: u8,

@@ -22,7 +22,8 @@ pub enum Wish {
 pub enum Request {
     /// HLA 1.3's Time Advance Request: it is due at its time.
     Tar(u64),
-    /// HLA 1.3's Next Event Request: it is due at its time, or at that of an earlier pending message.
+    /// HLA 1.3's Next Event Request: it is due at its time, or at that of an earlier pending
+    /// message.
     Ner(u64),
 }
 

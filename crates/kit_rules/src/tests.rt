@@ -134,7 +134,8 @@ fn a_message_needs_a_receiver_in_time(rt: HostRuntime) -> Result<(), Fail> {
     Ok(())
 }
 
-/// Whether a federate with this lookahead may have this action, in a federation with so many buffers.
+/// Whether a federate with this lookahead may have this action, in a federation with so many
+/// buffers.
 fn is_allowed(
     alloc: Global,
     lookahead: Option<u32>,

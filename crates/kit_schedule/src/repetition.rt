@@ -1,7 +1,9 @@
 //! One word of a schedule.
 
-ghost use Rattle.std.specs.Prelude.{◌≡◌, ◌≢◌, ◌*◌, ◌^◌, ◌<◌, ◌≤◌, ◌↔◌, ◌++◌, ℕ, List, All, IsTrue, IfSome, IfNone, OnOk, length, map, slice_index};
-ghost use Rattle.kit_schedule.specs.Schedules.{AreLetters, IsCount, IsLetter, IsRepetition, entries_of, federate_of};
+ghost use Rattle.std.specs.Prelude.{◌≡◌, ◌≢◌, ◌*◌, ◌^◌, ◌<◌, ◌≤◌, ◌↔◌, ◌++◌, ℕ, List, All, IsTrue};
+ghost use Rattle.std.specs.Prelude.{IfSome, IfNone, OnOk, length, map, slice_index};
+ghost use Rattle.kit_schedule.specs.Schedules.{AreLetters, IsCount, IsLetter, IsRepetition};
+ghost use Rattle.kit_schedule.specs.Schedules.{entries_of, federate_of};
 
 use std::alloc::AllocError;
 
@@ -91,7 +93,8 @@ impl Repetition<'_> {
     pub(crate) fn write(&self, entries: &mut Vec<u8>) -> Result<(), AllocError>
         requires { All IsLetter self.now.letters.now }
         ensures { OnOk result
-            (entries.new.items ≡ entries.old.items ++ entries_of self.now.times self.now.letters.now) }
+            (entries.new.items ≡ entries.old.items
+            ++ entries_of self.now.times self.now.letters.now) }
     {
         for _ in 0..self.times {
             push_federates(entries, self.letters)?;

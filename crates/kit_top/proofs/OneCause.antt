@@ -7,7 +7,7 @@ use Rattle.kit_rules.specs.Parts.{Parts}
 use Rattle.kit_rules.specs.Simulation.{spender}
 use Rattle.kit_file.specs.declared.fault.FileFault.{FileFault}
 use Rattle.kit_file.specs.declared.fault.FileFault.TheVariants as file
-use Rattle.kit_file.specs.Answers.{Says, IsAccepted, IsFirstFault, IsNoJson, file_fault, rooted}
+use Rattle.kit_file.specs.Answers.{Says, IsAccepted, IsFirstFault, IsNoJson, file_fault, path_text}
 use Rattle.kit_file.specs.Walk.{walk}
 use Rattle.kit_node.specs.declared.ends.End.{End}
 use Rattle.kit_node.specs.declared.ends.End.TheVariants as ends
@@ -51,7 +51,7 @@ fault_same : (bytes : List ℕ) (f g : FileFault) → IsFirstFault bytes f → I
 fault_same bytes f g a b =
     let same : a.0 ≡ b.0 = says_same bytes a.0 b.0 a.1 b.1 in
     let e : a.2 ≡ b.2 = err_same a.2 b.2 (walk a.0) a.3 (ap walk same ∙ b.3) in
-    a.4 ∙ same_under a.2 b.2 e (λ x. file_fault x.kind (rooted x.path)) ∙ sym b.4
+    a.4 ∙ same_under a.2 b.2 e (λ x. file_fault x.kind (path_text x.path)) ∙ sym b.4
 
 -- and not both
 accepted_no_fault : (bytes : List ℕ) (p : Parts) (f : FileFault) → IsAccepted bytes p → IsFirstFault bytes f → ⊥

@@ -1,9 +1,9 @@
 //! Federates on one floor, each in a thread of its own, send each other letters by two mail words,
-//! and compare each letter that comes with the one that is due. Words: how many letters go from each
-//! federate to each other one by each mail word, and how many federates there are, 2 to 4. Without the
-//! second word there are 2, and a guest in a third thread looks at their clocks. With `look`,
-//! `publish`, `free` or `collect` as the second word one thread makes that call so often instead, for
-//! measuring.
+//! and compare each letter that comes with the one that is due. Words: how many letters go from
+//! each federate to each other one by each mail word, and how many federates there are, 2 to 4.
+//! Without the second word there are 2, and a guest in a third thread looks at their clocks. With
+//! `look`, `publish`, `free` or `collect` as the second word one thread makes that call so often
+//! instead, for measuring.
 #![tactic(auto)]
 
 mod calls;

@@ -16,8 +16,8 @@ use kit_known::Known;
 use std::alloc::{AllocError, Global};
 use std::thread::{Threads, join, map_vec, yield_now};
 
-/// How many turns a federate takes at most. A run that is still without a letter then ends, and says
-/// so.
+/// How many turns a federate takes at most. A run that is still without a letter then ends, and
+/// says so.
 pub const TURNS: u64 = 1 << 40;
 
 /// What a federate's clock shows once its letters have gone and come.
@@ -58,8 +58,8 @@ fn entry(other: u8, word: u8) -> usize
     usize::from(other) * 2 + usize::from(word)
 }
 
-/// The letter of this number from one federate to another by a mail word. Both know it, so what comes
-/// is compared with it.
+/// The letter of this number from one federate to another by a mail word. Both know it, so what
+/// comes is compared with it.
 fn letter_of(from: u8, to: u8, word: u8, number: u64) -> Letter {
     let way = u64::from(from) << 9 | u64::from(to) << 1 | u64::from(word);
     Letter {
@@ -277,7 +277,8 @@ fn trade_all<R: Threads + Sync>(
 ) -> Result<Tally, AllocError>
     requires few { federates_of floor.now ≤ 4 }
     requires wide { 64 < buffers_of floor.now }
-    requires seats { (k : ℕ) (s : _) → get_elem? seats.items k ≡ some s → IsNewSeatOf courier_first floor.now k s }
+    requires seats { (k : ℕ) (s : _) → get_elem? seats.items k ≡ some s
+        → IsNewSeatOf courier_first floor.now k s }
 {
     let tallies = map_vec(
         rt,
@@ -316,8 +317,8 @@ pub fn trade_on_threads<R: Threads + Sync>(
     trade_all(rt, &floor, seats, letters, false)
 }
 
-/// Two federates trade on one floor while a guest looks at their clocks, each of the three in a thread
-/// of its own. It gives what came to both, and what the guest saw.
+/// Two federates trade on one floor while a guest looks at their clocks, each of the three in a
+/// thread of its own. It gives what came to both, and what the guest saw.
 ///
 /// It fails only for want of memory.
 pub fn trade_watched<R: Threads + Sync>(
@@ -340,7 +341,8 @@ pub fn trade_watched<R: Threads + Sync>(
         move || -> Result<Tally, AllocError>
             requires few { federates_of shared.now ≤ 4 }
             requires wide { 64 < buffers_of shared.now }
-            requires seats { (k : ℕ) (s : _) → get_elem? seats.items k ≡ some s → IsNewSeatOf courier_first shared.now k s }
+            requires seats { (k : ℕ) (s : _) → get_elem? seats.items k ≡ some s
+                → IsNewSeatOf courier_first shared.now k s }
         { trade_all(rt, shared, seats, letters, true) },
     );
     Ok((all?, sight))

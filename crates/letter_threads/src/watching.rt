@@ -31,7 +31,9 @@ fn look_at(floor: &TableFloor<Couriers>, guest: &mut GuestSeat<Couriers>, federa
     ensures guest { IsGuestOf floor.now guest.new }
     ensures risen { slice_index (known_by floor.now guest.old) federate ≤ result }
     ensures found { slice_index (known_by floor.now guest.new) federate ≡ result }
-    ensures others { (k : ℕ) → k ≢ federate → slice_index (known_by floor.now guest.new) k ≡ slice_index (known_by floor.now guest.old) k }
+    ensures others { (k : ℕ) → k ≢ federate
+        → slice_index (known_by floor.now guest.new) k
+        ≡ slice_index (known_by floor.now guest.old) k }
 {
     floor.clock::<Deliveries>(guest, federate)
 }

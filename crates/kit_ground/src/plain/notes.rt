@@ -78,7 +78,7 @@ impl<V, E: Event<V>> Reads<Noting<V>, LinkedList<Place<V>>> for Notes<E> {
 }
 
 /// The places after a step of one seat.
-pub fn noted<V, E: Event<V>>(
+pub fn note_step<V, E: Event<V>>(
     places: &Known<LinkedList<Place<V>>>,
     me: u8,
     deed: Deed,
@@ -102,7 +102,7 @@ impl Reads<(Known<LinkedList<u64>>, u8), LinkedList<u64>> for OneMore {
 }
 
 /// One step more, of this seat.
-pub fn counted(steps: &Known<LinkedList<u64>>, me: u8) -> Known<LinkedList<u64>>
+pub fn count_step(steps: &Known<LinkedList<u64>>, me: u8) -> Known<LinkedList<u64>>
     ensures { result.value ≡ steps.now.value ++ me ∷ [] }
 {
     let both = (steps.again(), me);

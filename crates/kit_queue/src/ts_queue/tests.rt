@@ -7,7 +7,8 @@ use std::test::Fail;
 
 /// Inserts an entry, unless one of its sender and number waits.
 fn add<Q: Order>(queue: &mut Q, entry: Entry) -> Result<bool, AllocError>
-    ensures added { IfOk result (λ b. b ≡ true → Q.entries queue.new ≡ put_entry entry (Q.entries queue.old)) }
+    ensures added { IfOk result (λ b. b ≡ true
+        → Q.entries queue.new ≡ put_entry entry (Q.entries queue.old)) }
     ensures in_order { IsInOrder (Q.entries queue.new) }
 {
     let Message { sender, number, .. } = entry.message;

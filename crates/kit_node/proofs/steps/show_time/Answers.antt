@@ -10,7 +10,7 @@ use Rattle.kit_node.proofs.WorldSteps.{goes_on}
 use Rattle.kit_ground.specs.Rules.{Keeps}
 use Rattle.kit_lbts.specs.Agreement.{agreeing_rule}
 use Rattle.kit_lbts.specs.Progress.{view_after_grant}
-use Rattle.kit_lbts.specs.Reduction.{clock_of}
+use Rattle.kit_ground.specs.Layout.{clock_of}
 use Rattle.kit_lbts.specs.Seats.{most_sends}
 use Rattle.kit_lbts.specs.Views.{due_of}
 use Rattle.kit_lbts.proofs.GrantAgreement.{grants_agree}

@@ -14,9 +14,9 @@ invariant_of-self g c =
         opening = self.opening.value;
         buffers = self.buffers;
         words = (floor_after c.args.at c.args.word made (record { opening = self.opening.value; buffers = self.buffers; words = self.words.items; places = self.places.value; seated = self.seated; steps = self.steps.value })).words;
-        places = sym c.noted.ensures i;
+        places = sym c.note_step.ensures i;
         seated = self.seated;
-        steps = sym c.counted.ensures i;
+        steps = sym c.count_step.ensures i;
       }) kept,
-      c.self.invariant.1 ∙ sym (ap length c.noted.ensures ∙ length-changed made self.seated self.places.value),
+      c.self.invariant.1 ∙ sym (ap length c.note_step.ensures ∙ length-changed made self.seated self.places.value),
     )

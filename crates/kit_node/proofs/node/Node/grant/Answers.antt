@@ -6,7 +6,7 @@ use Rattle.kit_ground.specs.declared.place.Place.{Place}
 use Rattle.kit_ground.specs.Steps.{place_after}
 use Rattle.kit_lbts.specs.declared.view.LbtsView.{LbtsView}
 use Rattle.kit_lbts.specs.Progress.{view_after, view_after_grant}
-use Rattle.kit_lbts.specs.Reduction.{clock_of}
+use Rattle.kit_ground.specs.Layout.{clock_of}
 use Rattle.kit_lbts.specs.Seats.{most_sends}
 use Rattle.kit_lbts.specs.Views.{due_of}
 use Rattle.kit_node.specs.declared.ends.NodeEnd.TheVariants.{SendsSpent}
