@@ -28,7 +28,6 @@ use Rattle.kit_lbts.specs.declared.view.Posting.{Posting}
 use Rattle.kit_lbts.specs.declared.view.Scheme.{Scheme}
 use Rattle.kit_lbts.specs.Agreement.{blocks_from}
 use Rattle.kit_lbts.specs.LedgerLaws.{ready_place}
-use Rattle.kit_lbts.specs.Progress.{view_after_start}
 use Rattle.kit_lbts.specs.SeatLaws.{IsInWorld}
 use Rattle.kit_lbts.specs.Views.{entries_of, is_new, time_of}
 use Rattle.kit_lbts.proofs.SeatFacts.{places_tell}
@@ -37,7 +36,7 @@ use Rattle.kit_node.specs.Frames.{IsReceipt, IsSameSeat}
 use Rattle.kit_node.specs.Receiving.{HasReceived, ReceivesOnly}
 use Rattle.kit_node.specs.Turns.{grants_of, waiting}
 use Rattle.kit_node.proofs.MirrorFrames.{ready_new, ready_same, receipts_keep_time}
-use Rattle.kit_node.proofs.OpenedRounds.{ready_journal}
+use Rattle.kit_node.proofs.ReadyPlaces.{ready_by, ready_journal}
 use Rattle.kit_rules.proofs.ReceiverMasks.{receivers_below, receivers_without}
 use Rattle.kit_lbts.proofs.ReadyWorlds.{ready_asked}
 
@@ -92,9 +91,6 @@ pub record Kept (v u : LbtsView) : Type 0 where
   pub contributions : u.contributions ≡ v.contributions
   pub taken : u.taken ≡ v.taken
   pub results : u.results ≡ v.results
-
-abbrev ready_by : P → Bool → P
-ready_by p b = record p { client = cond b (view_after_start p.own.number p.client) p.client }
 
 pub kept_ready : (p : P) → Kept p.client (ready_place p).client
 kept_ready p = by (is_new p.client.request)

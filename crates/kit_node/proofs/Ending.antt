@@ -1,5 +1,5 @@
 -- How the start goes on in a turn, and what a turn comes to where one of its parts ends the node.
-use Rattle.std.proofs.Common.{◌≡◌, ◌≢◌, ℕ, ◌+◌, ◌<◌, ◌≤◌, ◌⊎◌, inl, inr, Bool, true, false, List, [], ◌∷◌, length, drop, map, refl, sym, ap, ◌∙◌, subst, arith, if◌then◌else◌}
+use Rattle.std.proofs.Common.{◌≡◌, ◌≢◌, ℕ, ◌+◌, ◌<◌, ◌≤◌, ◌⊎◌, inl, inr, Bool, true, false, List, [], ◌∷◌, length, drop, map, refl, sym, ap, ◌∙◌, subst, arith}
 use Rattle.std.specs.Prelude.{IfErr, IfOk, Option, Some, None, Ok, Err, Result, is_some}
 use Rattle.std.proofs.lemmas.Bool.{false≢true, true≢false}
 use Rattle.std.proofs.lemmas.List.{drop_all, length-append}
@@ -16,7 +16,6 @@ use Rattle.kit_rules.proofs.Growth.{grows_by_step}
 use Rattle.kit_lbts.specs.declared.view.LbtsView.{LbtsView}
 use Rattle.kit_lbts.specs.declared.view.Noted.{Noted}
 use Rattle.kit_lbts.specs.LedgerLaws.{ready_place}
-use Rattle.kit_lbts.specs.Progress.{view_after_start}
 use Rattle.kit_lbts.specs.Promises.{bound_in, bound_of}
 use Rattle.kit_lbts.specs.SeatLaws.{IsInWorld}
 use Rattle.kit_lbts.specs.Views.{entries_of, is_new, time_of}
@@ -38,7 +37,7 @@ use Rattle.kit_node.specs.Turns.{HasEndedBy, IsHeldUpBy, IsPosted, LooksAtBadEnd
 use Rattle.kit_node.proofs.Alone.{kept_ready, kept_received, seat_received, stop_received, time_received}
 use Rattle.kit_node.proofs.GrantMirrors.{report_kept}
 use Rattle.kit_node.proofs.MirrorFrames.{begun_mirrors, ready_same, receipts_keep_time, report_of}
-use Rattle.kit_node.proofs.OpenedRounds.{ready_journal}
+use Rattle.kit_node.proofs.ReadyPlaces.{ready_by, ready_journal}
 use Rattle.kit_node.proofs.PostedAll.{posted_none}
 use Rattle.kit_node.proofs.Working.{SeatStays, ViewStays, seat_reduced, seat_settled, view_reduced, view_settled}
 
@@ -277,7 +276,7 @@ ends_held_up sh n end p q r w wq hr early m h = subst (λ (x : NodeEnd). HasEnde
 calm_ready : (p : P) → IsCalm (ready_place p).client → IsCalm p.client
 calm_ready p = by (is_new p.client.request)
   where
-    by : (b : Bool) → IsCalm (if b then view_after_start p.own.number p.client else p.client) → IsCalm p.client
+    by : (b : Bool) → IsCalm (ready_by p b).client → IsCalm p.client
     by true c = record { in_hand = c.in_hand; spent = c.spent; sending = c.sending }
     by false c = c
 

@@ -1,5 +1,6 @@
 -- What changes where a part of a turn did something: a post is told, and the return of a buffer changes what is held.
 use Rattle.std.proofs.Common.{◌≡◌, ◌≢◌, ℕ, zero, suc, ◌+◌, ◌^◌, ◌<◌, ◌≤◌, ◌==◌, ◌&&◌, inl, inr, nat_lt, Bool, true, false, List, [], ◌∷◌, ◌++◌, length, take, filter, map, refl, sym, ap, ◌∙◌, subst, arith, eq-eqb, if◌then◌else◌}
+use Rattle.std.proofs.Math.Bool.{and-false}
 use Rattle.std.specs.Prelude.{All, IfSome, Option, Some, None, count_by, slice_index, is_some}
 use Rattle.std.specs.Int.{bit_at}
 use Rattle.std.specs.List.{Contains, range_with_len}
@@ -77,15 +78,11 @@ posts_more p w v same count some_ few = by p.client.outbox count some_ few (plac
         omega (arith, one, long)
 
 -- A BUFFER that is given back is held no more
-and_false : (b : Bool) → (b && false) ≡ false
-and_false true = refl
-and_false false = refl
-
 none_if : (b : Bool) → b ≡ false → one_if b ≡ 0
 none_if b e = ap one_if e
 
 fewer_one : (i k : ℕ) (e : Entry) (b : Bool) → one_if (waits_in i k (if b then without_buffer e else e)) ≤ one_if (waits_in i k e)
-fewer_one i k e true = let z = none_if (waits_in i k (without_buffer e)) (and_false (e.message.sender == i)) in omega (arith, z)
+fewer_one i k e true = let z = none_if (waits_in i k (without_buffer e)) (and-false (e.message.sender == i)) in omega (arith, z)
 fewer_one i k e false = omega arith
 
 fewer_wait : (bound i k : ℕ) (es : List Entry) → count_by (waits_in i k) (settled_below bound es) ≤ count_by (waits_in i k) es
@@ -118,7 +115,7 @@ module _ (bound federates buffers : ℕ) where
           let a = count_cons (waits_in i k) (settled_or_same bound e) (settled_below bound es) in
           let b = count_cons (waits_in i k) e es in
           let gone : one_if (waits_in i k (settled_or_same bound e)) ≡ 0 =
-          ap (λ (c : Bool). one_if (waits_in i k (if c then without_buffer e else e))) may ∙ none_if (waits_in i k (without_buffer e)) (and_false (e.message.sender == i)) in
+          ap (λ (c : Bool). one_if (waits_in i k (if c then without_buffer e else e))) may ∙ none_if (waits_in i k (without_buffer e)) (and-false (e.message.sender == i)) in
           let here : one_if (waits_in i k e) ≡ 1 = ap one_if (ap (λ (o : Option ℕ). (e.message.sender == i) && is_buffer k o) is ∙ ((λ t. eq-eqb i i refl t && eq-eqb k k refl t))) in
           let rest = fewer_wait bound i k es in
           record { i = i; k = k; from = there.0; inside = subst (λ (o : Option ℕ). IfSome o (λ x. x < buffers)) is there.1; less = omega (arith, a, b, gone, here, rest) }

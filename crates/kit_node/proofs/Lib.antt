@@ -13,6 +13,7 @@ pub mod PostsBelow
 pub mod CountedPosts
 pub mod PostedWhole
 pub mod PostedAll
+pub mod ReadyPlaces
 pub mod MirrorFrames
 pub mod HeldUp
 pub mod PostingOn
@@ -34,9 +35,11 @@ pub mod RisingBounds
 pub mod RoundMirrors
 pub mod OpenedRounds
 pub mod Reductions
+pub mod ReceiptOrders
 pub mod GrantMirrors
 pub mod Alone
 pub mod Idling
 pub mod Working
+pub mod TurnOrders
 pub mod Turning
 pub mod Ending

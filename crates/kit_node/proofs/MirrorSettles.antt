@@ -19,7 +19,7 @@ use Rattle.kit_node.specs.Settling.{HasSettled, settled_below, settled_or_same}
 abbrev P : Type 0
 P = Place LbtsView
 
-abbrev Loose : ℕ → Entry → Type 0
+abbrev pub Loose : ℕ → Entry → Type 0
 Loose below e = e.message.time < below → e.buffer ≡ None
 
 -- an entry without a buffer below the bound stays as it is

@@ -1,5 +1,5 @@
 -- A node with a round under way: one that was before, or one that was opened now.
-use Rattle.std.proofs.Common.{◌≡◌, ◌≢◌, ℕ, ◌+◌, ◌-◌, ◌^◌, ◌<◌, ◌≤◌, ◌==◌, ◌⊎◌, inl, inr, Bool, true, false, cond, List, [], ◌∷◌, ◌++◌, length, take, map, get_or, refl, sym, ap, ◌∙◌, subst, arith, eq-eqb, if◌then◌else◌}
+use Rattle.std.proofs.Common.{◌≡◌, ◌≢◌, ℕ, ◌+◌, ◌-◌, ◌^◌, ◌<◌, ◌≤◌, ◌==◌, ◌⊎◌, inl, inr, Bool, true, false, List, [], ◌∷◌, ◌++◌, length, take, map, get_or, refl, sym, ap, ◌∙◌, subst, arith, eq-eqb, if◌then◌else◌}
 use Rattle.std.specs.Prelude.{All, None, count_by}
 use Rattle.std.proofs.lemmas.Bool.{eqb-true, false≢true, ne_eqb, true≢false}
 use Rattle.std.proofs.lemmas.List.{append-nil, get_or_append_left, length-append, length_push, take_all, take_at}
@@ -18,10 +18,9 @@ use Rattle.kit_lbts.specs.declared.view.Filled.{Filled}
 use Rattle.kit_lbts.specs.declared.view.LbtsView.{LbtsView}
 use Rattle.kit_lbts.specs.declared.view.Posting.{Posting}
 use Rattle.kit_lbts.specs.LedgerLaws.{ready_place}
-use Rattle.kit_lbts.specs.Progress.{view_after_start}
 use Rattle.kit_lbts.specs.Promises.{bound_in, copy_posted, copy_received, least_post, next_contribution, next_run, result_at, unknown}
 use Rattle.kit_lbts.specs.SeatLaws.{IsInWorld}
-use Rattle.kit_lbts.specs.Views.{entries_of, is_new, receipts, receipts_in, time_of}
+use Rattle.kit_lbts.specs.Views.{entries_of, receipts, receipts_in, time_of}
 use Rattle.kit_lbts.proofs.Contributions.{last_is}
 use Rattle.kit_lbts.proofs.SeatFacts.{places_tell, receipts_are_near}
 use Rattle.kit_fly.specs.Starts.{view_started}
@@ -33,6 +32,7 @@ use Rattle.kit_node.specs.Mirrors.{HasUnderWay, Mirrors, MirrorsPosts, MirrorsRe
 use Rattle.kit_node.specs.Reducing.{HasOpened, coloured}
 use Rattle.kit_lbts.proofs.FewColours.{runs_few, runs_near}
 use Rattle.kit_node.proofs.MirrorFrames.{course_frame, ready_same}
+use Rattle.kit_node.proofs.ReadyPlaces.{ready_journal, ready_posted}
 use Rattle.kit_node.proofs.Polling.{closes_or_not}
 use Rattle.kit_node.proofs.RoundMirrors.{MirrorsOpened, results_before}
 use Rattle.kit_node.proofs.RoundOpenings.{ready_rounds}
@@ -44,24 +44,6 @@ P = Place LbtsView
 -- one that has not started contributed to no round
 pub fresh : (p : P) → IsInWorld p → p.client.request ≡ None → p.client.contributions ≡ []
 fresh p w new = ((places_tell p w).sends.new new).5
-
--- the start leaves the journal and the posts
-abbrev ready_by : P → Bool → P
-ready_by p b = record p { client = cond b (view_after_start p.own.number p.client) p.client }
-
-pub ready_journal : (p : P) → (ready_place p).client.journal ≡ p.client.journal
-ready_journal p = by (is_new p.client.request)
-  where
-    by : (b : Bool) → (ready_by p b).client.journal ≡ p.client.journal
-    by true = refl
-    by false = refl
-
-pub ready_posted : (p : P) → (ready_place p).client.posted ≡ p.client.posted
-ready_posted p = by (is_new p.client.request)
-  where
-    by : (b : Bool) → (ready_by p b).client.posted ≡ p.client.posted
-    by true = refl
-    by false = refl
 
 -- A ROUND THAT WAS UNDER WAY
 module _ {Q R : Type 0} (sh : Shown Q R) (n : Node Q R) (p : P) (w : IsInWorld p) (m : Mirrors sh n (ready_place p)) where

@@ -1,5 +1,5 @@
 -- When a node may open a round, and what it does to the node and its seat.
-use Rattle.std.proofs.Common.{◌≡◌, ◌≢◌, ℕ, ◌+◌, ◌^◌, ◌<◌, ◌≤◌, ◌==◌, Bool, true, false, cond, List, length, refl, sym, ap, ◌∙◌, subst, arith, if◌then◌else◌}
+use Rattle.std.proofs.Common.{◌≡◌, ◌≢◌, ℕ, ◌+◌, ◌^◌, ◌<◌, ◌≤◌, ◌==◌, Bool, true, false, List, length, refl, sym, ap, ◌∙◌, subst, arith, if◌then◌else◌}
 use Rattle.std.specs.Prelude.{Option, Some, None}
 use Rattle.kit_ground.specs.declared.place.Place.{Place}
 use Rattle.kit_model.specs.declared.share.Share.{Share}
@@ -8,7 +8,7 @@ use Rattle.kit_rules.specs.declared.table.Request.{Request}
 use Rattle.kit_rules.specs.Parts.{Parts}
 use Rattle.kit_lbts.specs.declared.view.LbtsView.{LbtsView}
 use Rattle.kit_lbts.specs.LedgerLaws.{ready_place}
-use Rattle.kit_lbts.specs.Progress.{view_after_start, view_when_ready}
+use Rattle.kit_lbts.specs.Progress.{view_when_ready}
 use Rattle.kit_lbts.specs.Promises.{bound_in, bound_of}
 use Rattle.kit_lbts.specs.PublishLaws.{ShowsLast}
 use Rattle.kit_lbts.specs.SeatLaws.{IsInWorld}
@@ -22,6 +22,7 @@ use Rattle.kit_node.specs.Fields.{posts_turned, receipts_turned}
 use Rattle.kit_node.specs.Mirrors.{Mirrors, Shown}
 use Rattle.kit_node.specs.Reducing.{CanPromise, HasOpened, HasSpentRounds, coloured, share_of_node}
 use Rattle.kit_node.proofs.MirrorFrames.{SameRounds}
+use Rattle.kit_node.proofs.ReadyPlaces.{ready_by}
 use Rattle.kit_lbts.proofs.ReadyWorlds.{ready_asked, ready_federation, ready_in_world, ready_sending, ready_shows}
 use Rattle.kit_node.proofs.Sharing.{can_promise, share_is}
 
@@ -29,9 +30,6 @@ abbrev P : Type 0
 P = Place LbtsView
 
 -- THE START leaves the rounds, the federation and what is half posted
-abbrev ready_by : P → Bool → P
-ready_by p b = record p { client = cond b (view_after_start p.own.number p.client) p.client }
-
 pub ready_rounds : (p : P) → SameRounds p (ready_place p)
 ready_rounds p = by (is_new p.client.request)
   where

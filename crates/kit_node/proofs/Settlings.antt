@@ -1,5 +1,6 @@
 -- One entry of a queue after another gives up its buffer.
 use Rattle.std.proofs.Common.{◌≡◌, ℕ, ◌+◌, ◌<◌, ◌&&◌, nat_lt, Bool, true, false, List, [], ◌∷◌, refl, sym, ap, ◌∙◌, arith, if◌then◌else◌}
+use Rattle.std.proofs.Math.Bool.{and-false}
 use Rattle.std.specs.Prelude.{Option, Some, None, is_some, find, option_map, option_and_then, count_by}
 use Rattle.std.proofs.lemmas.Option.{none-some}
 use Rattle.std.proofs.lemmas.Bool.{false≢true}
@@ -32,12 +33,8 @@ pub settled_again : (below : ℕ) (es : List Entry) → settled_below below (wit
 settled_again = settled_twice
 
 -- where no entry can be settled all stay as they are
-and_false : (b : Bool) → (b && false) ≡ false
-and_false true = refl
-and_false false = refl
-
 some_buffer : (below : ℕ) (e : Entry) (b : Option ℕ) → e.buffer ≡ b → is_settleable below e ≡ true → option_map {U = ℕ × ℕ} (λ (c : ℕ). (e.message.sender, c)) b ≡ None → ⊥
-some_buffer below e None is may none = false≢true (sym (and_false (nat_lt e.message.time below)) ∙ (ap (λ (b : Option ℕ). nat_lt e.message.time below && is_some b) (sym is) ∙ may))
+some_buffer below e None is may none = false≢true (sym (and-false (nat_lt e.message.time below)) ∙ (ap (λ (b : Option ℕ). nat_lt e.message.time below && is_some b) (sym is) ∙ may))
 some_buffer below e (Some b) is may none = none-some (e.message.sender, b) (sym none)
 
 none_of : (below : ℕ) (e : Entry) (es : List Entry) (b : Bool) → is_settleable below e ≡ b → first_buffer below (e ∷ es) ≡ None
@@ -55,7 +52,7 @@ count_cons : (below : ℕ) (e : Entry) (es : List Entry) → count_by (is_settle
 count_cons below e es = sum_by-cons (λ (x : Entry). if is_settleable below x then 1 else 0) e es
 
 settles_one : (below : ℕ) (e : Entry) → is_settleable below (without_buffer e) ≡ false
-settles_one below e = and_false (nat_lt e.message.time below)
+settles_one below e = and-false (nat_lt e.message.time below)
 
 fewer_of : (below : ℕ) (e : Entry) (es : List Entry) (i k : ℕ) (b : Bool) → is_settleable below e ≡ b → first_buffer below (e ∷ es) ≡ Some (i, k)
     → (first_buffer below es ≡ Some (i, k) → count_by (is_settleable below) (with_first_settled below es) < count_by (is_settleable below) es)

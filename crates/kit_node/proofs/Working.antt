@@ -20,7 +20,7 @@ use Rattle.kit_lbts.specs.declared.view.Posting.{Posting}
 use Rattle.kit_lbts.specs.Agreement.{blocks_from}
 use Rattle.kit_lbts.specs.AgreementLaws.{MayBeGranted}
 use Rattle.kit_lbts.specs.LedgerLaws.{ready_place}
-use Rattle.kit_lbts.specs.Progress.{due_in, is_under_way, view_after_start}
+use Rattle.kit_lbts.specs.Progress.{due_in, is_under_way}
 use Rattle.kit_lbts.specs.Promises.{bound_in, bound_of}
 use Rattle.kit_lbts.specs.SeatLaws.{IsInWorld}
 use Rattle.kit_lbts.specs.Views.{due_of, entries_of, is_in_hand, is_new, is_spent, time_of}
@@ -42,6 +42,7 @@ use Rattle.kit_node.proofs.GrantMirrors.{granted_place, slot_granted}
 use Rattle.kit_node.proofs.Idling.{posts_more, settles_change}
 use Rattle.kit_node.proofs.MirrorFrames.{ready_same}
 use Rattle.kit_node.proofs.MirrorSettles.{all_settled}
+use Rattle.kit_node.proofs.ReadyPlaces.{ready_by}
 
 abbrev P : Type 0
 P = Place LbtsView
@@ -80,9 +81,6 @@ pub record ViewStays (v u : LbtsView) : Type 0 where
   pub filled : u.filled ≡ v.filled
 
 -- A REDUCTION
-abbrev ready_by : P → Bool → P
-ready_by p b = record p { client = if b then view_after_start p.own.number p.client else p.client }
-
 view_ready : (p : P) → ViewStays p.client (ready_place p).client
 view_ready p = by (is_new p.client.request)
   where

@@ -63,3 +63,4 @@ pub record IsReported {Q R : Type 0} (n : Node Q R) (r : NodeReport) : Type 0 wh
   pub bound : r.bound ≡ known_bound n
   pub rounds : r.rounds ≡ rounds_in n
   pub turns : r.turns ≡ n.turns
+  pub ended : r.ended ≡ end_in n

@@ -1,5 +1,5 @@
 -- The receipt of transient messages: what was collected, what came of it, and what it needs.
-use Rattle.std.specs.Prelude.{◌≡◌, ◌≢◌, ℕ, ◌+◌, ◌*◌, ◌<◌, ◌≤◌, ◌⊎◌, Bool, true, not, List, [], ◌∷◌, ◌++◌, All, AllPairs, length, map, filter, vec_capacity, Option, Some, None, IfSome}
+use Rattle.std.specs.Prelude.{◌≡◌, ◌≢◌, ℕ, ◌+◌, ◌*◌, ◌<◌, ◌≤◌, ◌⊎◌, Bool, true, false, not, List, [], ◌∷◌, ◌++◌, All, AllPairs, length, map, filter, vec_capacity, Option, Some, None, IfSome}
 use Rattle.std.specs.List.{list_any}
 use Rattle.kit_base.specs.declared.message.Message.{Message}
 use Rattle.kit_base.specs.declared.words.Head.{Head}
@@ -10,12 +10,13 @@ use Rattle.kit_ground.specs.Layout.{mail_words}
 use Rattle.kit_ground.specs.Steps.{place_after}
 use Rattle.kit_model.specs.declared.journal.Journal.{Journal}
 use Rattle.kit_queue.specs.declared.entry.Entry.{Entry}
+use Rattle.kit_queue.specs.Entries.{is_numbered}
 use Rattle.kit_lbts.specs.declared.view.InHand.{InHand}
 use Rattle.kit_lbts.specs.declared.view.LbtsView.{LbtsView}
 use Rattle.kit_lbts.specs.LedgerLaws.{ready_place}
 use Rattle.kit_lbts.specs.MessageLaws.{HasHead}
 use Rattle.kit_lbts.specs.Progress.{in_hand, view_after}
-use Rattle.kit_lbts.specs.Views.{is_spent}
+use Rattle.kit_lbts.specs.Views.{is_spent, messages_received}
 use Rattle.kit_node.specs.declared.inbox.Arrival.{Arrival}
 use Rattle.kit_node.specs.declared.inbox.Inbox.{Inbox}
 use Rattle.kit_node.specs.declared.inbox.Orphan.{Orphan}
@@ -120,6 +121,35 @@ IsSilentFrom i q = (w : ℕ) → w < mail_words q.own.buffers → (last_mail q i
 
 abbrev pub IsSilent : Seat → Type 0
 IsSilent q = (i : ℕ) → IsOther q i → IsSilentFrom i q
+
+-- THE ORDER OF RECEIPT: the copies of the lesser sender first, and those of one sender in the order of their numbers
+abbrev pub ComesBefore : Message → Message → Type 0
+ComesBefore a b = (a.sender < b.sender) ⊎ ((a.sender ≡ b.sender) × (a.number < b.number))
+
+-- all that was received since p came in this order
+pub record ReceivesInOrder (p q : Seat) : Type 0 where
+  pub came : List Message
+  pub received : messages_received q.client ≡ messages_received p.client ++ came
+  pub order : AllPairs ComesBefore came
+
+-- all that was received since p is of one sender, and came in the order of its numbers
+pub record ReceivesInOrderFrom (from : ℕ) (p q : Seat) : Type 0 where
+  pub came : List Message
+  pub received : messages_received q.client ≡ messages_received p.client ++ came
+  pub sender : All (λ (m : Message). m.sender ≡ from) came
+  pub order : AllPairs (λ (a b : Message). a.number < b.number) came
+
+-- one copy, with the number that its head has, which no message of its sender had before
+pub record ReceivesOne (from : ℕ) (a : Arrival) (p q : Seat) : Type 0 where
+  pub message : Message
+  pub sender : message.sender ≡ from
+  pub number : message.number ≡ a.head.number
+  pub unheard : list_any (is_numbered from message.number) (messages_received p.client) ≡ false
+  pub received : messages_received q.client ≡ messages_received p.client ++ message ∷ []
+
+-- the copies in hand, as they are taken from the end: the last has the least number
+abbrev pub NumbersFall : List Arrival → Type 0
+NumbersFall arrivals = AllPairs (λ (a b : Arrival). b.head.number ≤ a.head.number) arrivals
 
 -- FRAMES. Of a place only the mail, what is held, and what the view says of receipts was changed
 pub record ReceivesOnly (p q : Seat) : Type 0 where

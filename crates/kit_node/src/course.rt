@@ -59,11 +59,9 @@ impl Course {
     ) -> Result<(), ApplyEnd>
         requires federate { me < length federation.now.federates }
         requires time { time ≤ federation.now.end }
-        ensures state { OnOk result (self.new
-            ≡ record self.old {
-              state = state_after federation.now me trigger time value
-                  self.old.state;
-            }) }
+        ensures state { OnOk result (let s = self.old.state in
+            self.new ≡ record self.old
+            { state = state_after federation.now me trigger time value s }) }
         ensures made { OnOk result (made.new.items
             ≡ made.old.items ++ drop (length self.old.state.sends) self.new.state.sends) }
         ensures kept { take (length self.old.state.sends) self.new.state.sends
@@ -82,8 +80,9 @@ impl Course {
         requires { time ≤ 100000 }
         ensures { self.new ≡ record self.old {
           now = time;
-          request = if nat_lt time end then Some
-              (request_at self.old.state.wish time end) else self.old.request;
+          request = if nat_lt time end
+              then Some (request_at self.old.state.wish time end)
+              else self.old.request;
         } }
     {
         self.now = time;

@@ -29,11 +29,9 @@ fn deliver(
 ) -> Result<(), NodeEnd>
     requires federate { me < length federation.now.federates }
     requires time { due ≤ federation.now.end }
-    ensures state { OnOk result (course.new
-        ≡ record course.old {
-          state = after_deliveries federation.now me due course.old.state
-              (message ∷ []);
-        }) }
+    ensures state { OnOk result (let s = course.old.state in
+        course.new ≡ record course.old
+        { state = after_deliveries federation.now me due s (message ∷ []) }) }
     ensures delivered { OnOk result (delivered.new.items ≡ delivered.old.items ++ message ∷ []) }
     ensures made { OnOk result (made.new.items
         ≡ made.old.items ++ drop (length course.old.state.sends) course.new.state.sends) }

@@ -42,6 +42,8 @@ pub struct NodeReport {
     pub bound: u64,
     pub rounds: u64,
     pub turns: Known<LinkedList<u64>>,
+    /// Why the node takes no further steps, if it takes none.
+    pub ended: Option<NodeEnd>,
 }
 
 impl<Q: Order + Drop, R: Reduction + Drop> Node<Q, R> {
@@ -54,6 +56,7 @@ impl<Q: Order + Drop, R: Reduction + Drop> Node<Q, R> {
     ghost use Rattle.kit_node.specs.Nodes.{BeginsAs, IsReported, SameBesidesTurns, end_in};
     ghost use Rattle.kit_node.specs.Nodes.{journal_in, known_bound, logical_time, number_of};
     ghost use Rattle.kit_node.specs.Nodes.{rounds_in};
+    ghost use Rattle.kit_node.specs.Receiving.{ReceivesInOrder};
     ghost use Rattle.kit_node.specs.Seats.{IsBelowEnd, IsSeatOf, IsWithinEnd};
     ghost use Rattle.kit_node.specs.Turns.{HasEndedBy, HasWorked, IsHeldUpBy, IsListed, IsPosted};
     ghost use Rattle.kit_node.specs.Turns.{SameNode, TurnIs};
@@ -70,8 +73,8 @@ impl<Q: Order + Drop, R: Reduction + Drop> Node<Q, R> {
         requires federate { federate < length federation.now.federates }
         requires some { 1 ≤ rounds }
         requires limit { rounds < 2 ^ 40 }
-        ensures { IfOk result (BeginsAs
-            (shows Q.entries R.scheme R.state) federation.now federate rounds) }
+        ensures { IfOk result
+            (BeginsAs (shows Q.entries R.scheme R.state) federation.now federate rounds) }
     {
         Ok(Node {
             me: federate,
@@ -101,6 +104,7 @@ impl<Q: Order + Drop, R: Reduction + Drop> Node<Q, R> {
         ensures turn { TurnIs self.old.ended result self.old self.new (G.place ground.old)
             (G.place ground.new) }
         ensures listed { IsListed self.old self.new (G.place ground.old) (G.place ground.new) }
+        ensures order { ReceivesInOrder (G.place ground.old) (G.place ground.new) }
     {
         let before = steps_of(ground);
         let answer = self.answer(federation, ground);
@@ -127,6 +131,7 @@ impl<Q: Order + Drop, R: Reduction + Drop> Node<Q, R> {
         ensures turn { TurnIs self.old.ended result self.old self.new (G.place ground.old)
             (G.place ground.new) }
         ensures turns { self.new.turns ≡ self.old.turns }
+        ensures order { ReceivesInOrder (G.place ground.old) (G.place ground.new) }
     {
         if let Some(end) = self.ended {
             return end.turn();
@@ -186,6 +191,7 @@ impl<Q: Order + Drop, R: Reduction + Drop> Node<Q, R> {
         ensures ends { IfErr result (λ end. HasEndedBy end self.new (G.place ground.old)
             (G.place ground.new)) }
         ensures same { SameNode self.old self.new }
+        ensures order { ReceivesInOrder (G.place ground.old) (G.place ground.new) }
     {
         let started = self.start(federation)?;
         let received = self.receive(ground)?;
@@ -279,7 +285,7 @@ impl<Q: Order + Drop, R: Reduction + Drop> Node<Q, R> {
     {
         let Node {
             me: _,
-            ended: _,
+            ended,
             course,
             journal,
             inbox: _,
@@ -294,6 +300,7 @@ impl<Q: Order + Drop, R: Reduction + Drop> Node<Q, R> {
             bound: rounds.bound,
             rounds: rounds.taken,
             turns,
+            ended,
         }
     }
 }

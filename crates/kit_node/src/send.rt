@@ -33,8 +33,8 @@ fn free_buffer<G: Ground<Under = Lbts>>(ground: &mut G) -> Option<u16>
     ensures world { IsInWorld (G.place ground.new) }
     ensures looks { LooksAtCounts (G.place ground.old) (G.place ground.new) }
     ensures found { IfSome result (HasFound (G.place ground.old) (G.place ground.new)) }
-    ensures none { IfNone result (HasFoundNone (G.place ground.old) (G.place ground.new).own.buffers
-        (G.place ground.new)) }
+    ensures none { IfNone result
+        (HasFoundNone (G.place ground.old) (G.place ground.new).own.buffers (G.place ground.new)) }
 {
     for buffer in 0..ground.buffers() {
         if is_free(ground, buffer) {
@@ -66,8 +66,8 @@ impl Outbox {
         requires buffer { buffer < (G.place ground.old).own.buffers }
         requires free { (buffer_of (G.place ground.old).own.stock buffer).free ≡ true }
         requires first { IsFirstOf message.now (G.place ground.old).client }
-        requires mask { mask ≡ receivers_of
-            (G.place ground.old).client.federation message.now.sender message.now.group }
+        requires mask { let f = (G.place ground.old).client.federation in
+            mask ≡ receivers_of f message.now.sender message.now.group }
         requires colour { colour ≡ last_run (G.place ground.old).client.contributions }
         requires small { colour < 2 ^ 40 }
         requires mirrors { MirrorsOutbox self.old (G.place ground.old).client }

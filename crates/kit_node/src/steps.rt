@@ -105,8 +105,8 @@ pub(crate) fn collect<G: Ground<Under = Lbts>>(ground: &mut G, from: u8, word: u
     requires from { from < (G.place ground.old).own.federates }
     requires other { from ≢ (G.place ground.old).own.number }
     requires word { word < mail_words (G.place ground.old).own.buffers }
-    requires numbers { let p = G.place ground.old in length
-        (view_when_ready p.own.number p.client).state.sends ≤ most_sends }
+    requires numbers { let p = G.place ground.old in
+        length (view_when_ready p.own.number p.client).state.sends ≤ most_sends }
     ensures came { G.came ground.old ground.new }
     ensures world { IsInWorld (G.place ground.new) }
     ensures place { G.place ground.new
@@ -171,8 +171,8 @@ pub(crate) fn show_time<G: Ground<Under = Lbts>>(ground: &mut G, me: u8, time: u
     requires me { me ≡ (G.place ground.old).own.number }
     requires may { MayBeGranted (G.place ground.old) }
     requires time { time ≡ due_of (G.place ground.old).client }
-    requires numbers { let p = G.place ground.old in length
-        (view_after_grant p.own.number time p.client).state.sends ≤ most_sends }
+    requires numbers { let p = G.place ground.old in
+        length (view_after_grant p.own.number time p.client).state.sends ≤ most_sends }
     ensures came { G.came ground.old ground.new }
     ensures world { IsInWorld (G.place ground.new) }
     ensures place { G.place ground.new

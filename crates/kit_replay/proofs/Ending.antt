@@ -1,5 +1,6 @@
 -- How a run ends: all of its schedule was taken, or a node ended badly.
 use Rattle.std.proofs.Common.{◌≡◌, ◌≢◌, ℕ, List, Some, None, Option, refl, sym, ap, ◌∙◌, subst}
+use Rattle.std.proofs.lemmas.Option.{none-some}
 use mathlib.Core.Option.{some}
 use lib.ListN.{get_elem?}
 use Rattle.kit_ground.specs.declared.place.Place.{Place}
@@ -23,16 +24,10 @@ use Rattle.kit_replay.specs.Schedules.{turns_of}
 use Rattle.kit_replay.specs.Stages.{AreReported, ClosesWith, EndsWithin, HasEnded, IsAtPlace, IsStage, IsWell, QueueNode, end_by, shown}
 use Rattle.kit_replay.proofs.Causes.{is_short, is_spent}
 use Rattle.kit_replay.proofs.Closing.{all_finished, is_done, numbered, place_at, replay_of}
-use Rattle.kit_replay.proofs.Reporting.{finished}
+use Rattle.kit_replay.proofs.Reporting.{finished, some_is}
 
 abbrev P : Type 0
 P = Place LbtsView
-
-some_is : {A : Type 0} {a b : A} → Some a ≡ Some b → a ≡ b
-some_is e = cc
-
-none_some : {X : Type 0} {x : X} → None ≡ Some x → ⊥
-none_some e = cc
 
 -- ---- a node ended badly
 module _ (p : Parts) (limit : ℕ) (schedule : List ℕ) (end : End) (s : Stage) (w : EndsWithin p limit schedule end s) (ruled : RulesHold agreeing_rule s.floor) (reports : List NodeReport) (reported : AreReported s.nodes.items reports) where
@@ -74,8 +69,8 @@ module _ (p : Parts) (limit : ℕ) (schedule : List ℕ) (end : End) (s : Stage)
       (subst (λ (i : ℕ). Spends here.0.client.federation i) number (is_spent here.0 at.seat.world bad.cause))
 
   by_end : (o : Option NodeEnd) → end_in node ≡ o → end_by f o ≡ Some end → IsReplay p schedule limit end reports s.floor
-  by_end None is made = absurd (none_some made)
-  by_end (Some node_end.Finished) is made = absurd (none_some made)
+  by_end None is made = absurd (none-some end made)
+  by_end (Some node_end.Finished) is made = absurd (none-some end made)
   by_end (Some (node_end.NoBuffer n)) is made =
       let bad = ended (node_end.NoBuffer n) is in
       let e : ends.NoBuffer f n ≡ end = some_is made in
@@ -103,7 +98,7 @@ module _ (p : Parts) (limit : ℕ) (schedule : List ℕ) (end : End) (s : Stage)
   by_end (Some node_end.NoMemory) is made =
       let bad = ended node_end.NoMemory is in
       let e : ends.NoMemory ≡ end = some_is made in
-      with_end node_end.NoMemory bad (subst (λ (x : End). EndsBadlyAt x (Some f)) e (λ none. none_some (sym none))) (subst (EndIs p limit s.floor.places) e tt) (λ d. no_done (e ∙ d))
+      with_end node_end.NoMemory bad (subst (λ (x : End). EndsBadlyAt x (Some f)) e (λ none. none-some f (sym none))) (subst (EndIs p limit s.floor.places) e tt) (λ d. no_done (e ∙ d))
     where
       no_done : ends.NoMemory ≡ ends.Done → ⊥
       no_done e = cc
@@ -123,10 +118,10 @@ module _ (p : Parts) (limit : ℕ) (schedule : List ℕ) (s : Stage) (stage : Is
   pub closes : (end : End) → ClosesWith s.nodes.items end → IsReplay p schedule limit end reports s.floor
   closes ends.Done c =
       let all = all_finished p limit schedule None s stage ruled c in
-      with_good ends.Done refl all (λ _. is_done p limit schedule None s stage ruled reports reported all (λ i. none_some))
+      with_good ends.Done refl all (λ _. is_done p limit schedule None s stage ruled reports reported all none-some)
   closes (ends.Unfinished f) c =
       let q = place_at p limit schedule None s stage ruled f c.node c.there in
-      let well = stage.well f c.node c.there none_some in
+      let well = stage.well f c.node c.there (none-some f) in
       with_good (ends.Unfinished f) refl
       (record {
         below = record { place = q.0; there = q.1; holds = goes_on f c.node q.0 (stage.each f c.node q.0 c.there q.1) (end_in c.node) refl well c.goes_on };

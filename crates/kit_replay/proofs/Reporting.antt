@@ -2,6 +2,7 @@
 use Rattle.std.proofs.Common.{arith, length, ◌≡◌, ◌≢◌, ℕ, List, Some, None, Option, refl, sym, ap, ◌∙◌, subst}
 use Rattle.std.specs.List.{All, Contains}
 use Rattle.std.proofs.lemmas.List.Elements.{All-contains}
+use Rattle.std.proofs.lemmas.Option.{none-some}
 use mathlib.Core.Option.{some}
 use lib.ListN.{get_elem?}
 use Rattle.kit_base.specs.declared.message.Message.{Message}
@@ -35,12 +36,12 @@ use Rattle.kit_replay.proofs.TurnLists.{steps_end}
 abbrev P : Type 0
 P = Place LbtsView
 
+pub some_is : {A : Type 0} {a b : A} → Some a ≡ Some b → a ≡ b
+some_is e = cc
+
 -- what is told of a receipt was received
 receipt_is : (e : JournalEntry) (colour : ℕ) (f : Filled) → receipt_of e colour ≡ Some f → e ≡ Received f.message
 receipt_is (Received m) colour f e = ap Received (ap (λ (x : Filled). x.message) (some_is e))
-  where
-    some_is : {a b : Filled} → Some a ≡ Some b → a ≡ b
-    some_is e = cc
 receipt_is (Delivered granted m) colour f e = cc
 receipt_is (Granted t) colour f e = cc
 
@@ -63,8 +64,9 @@ module _ (p : Parts) (limit i : ℕ) (turns : List ℕ) (n : QueueNode) (q : P) 
   tells (Some node_end.RoundsSpent) h = h.report
   tells (Some node_end.NoMemory) h = h.report
 
-  some_end : {a b : NodeEnd} → Some a ≡ Some b → a ≡ b
-  some_end e = cc
+  well_ended : (o : Option NodeEnd) (end : NodeEnd) → IsWell o → o ≡ Some end → end ≡ node_end.Finished
+  well_ended None end well is = absurd (none-some end is)
+  well_ended (Some e) end well is = sym (some_is is) ∙ well
 
   state_is : (o : Option NodeEnd) → IsWell o → IsNodeOf shown o n q → n.course.state ≡ q.client.state
   state_is None well h = h.mirrors.course.state
@@ -97,6 +99,7 @@ module _ (p : Parts) (limit i : ℕ) (turns : List ℕ) (n : QueueNode) (q : P) 
       bound = reported.bound ∙ told.bound;
       rounds = reported.rounds ∙ told.taken;
       vars = λ good. reported.vars ∙ ap (λ s. s.vars) (state_is n.ended (well good) at.seat.node);
+      well = λ good end is. well_ended (end_in n) end (well good) (sym reported.ended ∙ is);
       turns = subst (λ (l : List ℕ). StepsUntil (HasFinished q) l) (sym (ap (λ k. k.value) reported.turns ∙ at.listed)) (steps_end turns at.steps finished);
       few = let a = at.few in let b = reported.rounds ∙ told.taken in let c : length report.turns.value ≡ length turns = ap length (ap (λ k. k.value) reported.turns ∙ at.listed) in omega arith;
       lawful = subst IsLawful (sym journal_is) (journals_are_lawful (memory f) f.places rule i q there);

@@ -2,6 +2,7 @@
 use Rattle.std.proofs.Common.{◌≡◌, ◌≢◌, ℕ, ◌-◌, ◌<◌, ◌≤◌, List, [], ◌∷◌, ◌++◌, length, replicate, set, Some, None, Option, Vec, Global, refl, sym, ap, ◌∙◌, subst, arith}
 use Rattle.std.specs.Prelude.{vec_capacity}
 use Rattle.std.proofs.lemmas.List.{length-set, length_push}
+use Rattle.std.proofs.lemmas.Option.{none-some}
 use mathlib.Core.Logic.{dite}
 use mathlib.Core.Option.{some, some-injective}
 use native.Mathlib.Decide.{ℕ_discrete}
@@ -34,9 +35,6 @@ use Rattle.kit_replay.proofs.TurnLists.{entry_nowhere, entry_there, given_more, 
 abbrev P : Type 0
 P = Place LbtsView
 
-none_some : {X : Type 0} {x : X} → None ≡ Some x → ⊥
-none_some e = cc
-
 -- what came of a turn, of a node with its place
 pub record HasComeTo (p : Parts) (answer : Turn) (n n' : QueueNode) (q q' : P) : Type 0 where
   pub seat : IsSeatOf shown p n' q'
@@ -56,7 +54,7 @@ module _ (p : Parts) (limit : ℕ) (turns : List ℕ) (answer : Turn) (n n' : Qu
       seat = t.seat;
       limited = turned.limit ∙ at.limited;
       listed = listed_now;
-      steps = step_more turns made at.steps (λ f. none_some (sym e ∙ f)) (let lt = turned.steps in omega arith);
+      steps = step_more turns made at.steps (λ f. none-some _ (sym e ∙ f)) (let lt = turned.steps in omega arith);
       few = let a = at.few in let b = turned.rounds in let c = length_push turns made in omega arith;
     },
     turned.ended,
@@ -84,10 +82,10 @@ module _ (p : Parts) (limit : ℕ) (turns : List ℕ) (answer : Turn) (n n' : Qu
 pub well_without : (f : ℕ) (o : Option NodeEnd) → end_by f o ≡ None → IsWell o
 well_without f None e = tt
 well_without f (Some node_end.Finished) e = refl
-well_without f (Some (node_end.NoBuffer number)) e = absurd (none_some (sym e))
-well_without f (Some node_end.SendsSpent) e = absurd (none_some (sym e))
-well_without f (Some node_end.RoundsSpent) e = absurd (none_some (sym e))
-well_without f (Some node_end.NoMemory) e = absurd (none_some (sym e))
+well_without f (Some (node_end.NoBuffer number)) e = absurd (none-some _ (sym e))
+well_without f (Some node_end.SendsSpent) e = absurd (none-some _ (sym e))
+well_without f (Some node_end.RoundsSpent) e = absurd (none-some _ (sym e))
+well_without f (Some node_end.NoMemory) e = absurd (none-some _ (sym e))
 
 -- ---- the stage
 module _ (p : Parts) (limit : ℕ) (taken : List ℕ) (s : Stage) (stage : IsStage p limit taken None s) (i : ℕ) where
@@ -143,7 +141,7 @@ module _ (p : Parts) (limit : ℕ) (taken : List ℕ) (s : Stage) (stage : IsSta
 
       module _ (t : HasComeTo p answer n n' q q') (s' : Stage) (floor_is : s'.floor ≡ h) (nodes_are : s'.nodes.items ≡ set s.nodes.items i n') (reports_are : s'.reports ≡ s.reports) where
         well_before : IsWell (end_in n)
-        well_before = stage.well i n atn none_some
+        well_before = stage.well i n atn (none-some i)
 
         node_there : get_elem? s'.nodes.items i ≡ some n'
         node_there = ap (λ (l : List QueueNode). get_elem? l i) nodes_are ∙ at_set_here s.nodes.items i n' (at_inside s.nodes.items i n atn)
@@ -194,7 +192,7 @@ module _ (p : Parts) (limit : ℕ) (taken : List ℕ) (s : Stage) (stage : IsSta
               (λ same.
               let node_is : n' ≡ m = some-injective _ _ (sym node_there ∙ (ap (λ (x : ℕ). get_elem? s'.nodes.items x) (sym same) ∙ atm)) in
               subst (λ (x : QueueNode). IsWell (end_in x)) node_is (well (λ e. good (e ∙ ap Some (sym same)))))
-              (λ other. stage.well k m (sym (node_else k other) ∙ atm) none_some);
+              (λ other. stage.well k m (sym (node_else k other) ∙ atm) (none-some k));
           room = let r = stage.room in let l = ap length nodes_are ∙ length-set s.nodes.items i n' in let c = ap vec_capacity reports_are in omega arith;
           none = ap (λ (v : Vec NodeReport Global). v.items) reports_are ∙ stage.none;
         }

@@ -14,6 +14,8 @@ use Rattle.kit_lbts.specs.declared.view.LbtsView.{LbtsView}
 use Rattle.kit_lbts.specs.Agreement.{blocks_from}
 use Rattle.kit_lbts.specs.Promises.{bound_of}
 use Rattle.kit_lbts.specs.Views.{entries_of}
+use Rattle.kit_node.specs.declared.ends.NodeEnd.{NodeEnd}
+use Rattle.kit_node.specs.declared.ends.NodeEnd.TheVariants as node_end
 use Rattle.kit_node.specs.declared.node.NodeReport.{NodeReport}
 use Rattle.kit_node.specs.Seats.{HasFinished}
 use Rattle.kit_replay.specs.Schedules.{StepsUntil}
@@ -28,12 +30,14 @@ pub record AgreesWithPart (p : Parts) (i : ℕ) (entries : List JournalEntry) : 
   pub lines : lines_told i entries ≡ lines_of (blocks_from i [] entries)
   pub came : (t : ℕ) (m : Message) → Contains entries (Delivered t m) → Contains entries (Received m)
 
--- THE REPORT of federate i is of its place; `bad` is the federate whose node ended badly, if one did
+-- THE REPORT of federate i is of its place; `bad` is the federate whose node ended badly, if one did. Every other node goes on,
+-- or was granted the end
 pub record ReportsPlace (p : Parts) (bad : Option ℕ) (i : ℕ) (q : Seat) (r : NodeReport) : Type 0 where
   pub journal : r.journal.entries ≡ entries_of q.client
   pub bound : r.bound ≡ bound_of q.client
   pub rounds : r.rounds ≡ length q.client.contributions
   pub vars : bad ≢ Some i → r.vars ≡ q.client.state.vars
+  pub well : bad ≢ Some i → (end : NodeEnd) → r.ended ≡ Some end → end ≡ node_end.Finished
   pub turns : StepsUntil (HasFinished q) r.turns.value
   -- it opened one round in a turn at most
   pub few : r.rounds ≤ length r.turns.value

@@ -23,8 +23,8 @@ pub struct Replayed {
 pub fn replay(alloc: Global, federation: &Federation, schedule: &[u8], rounds: u64) -> Replayed
     requires some { 1 ≤ rounds }
     requires limit { rounds < 2 ^ 40 }
-    ensures { IsReplayed federation.now schedule.now rounds result.end result.nodes.items
-        result.floor }
+    ensures { IsReplayed federation.now schedule.now rounds
+        result.end result.nodes.items result.floor }
 {
     let Ok(mut stage) = Stage::new(alloc, federation, rounds) else {
         return Replayed {

@@ -6,6 +6,8 @@ use Rattle.kit_lbts.specs.declared.view.LbtsView.{LbtsView}
 use Rattle.kit_lbts.specs.Progress.{view_after}
 use Rattle.kit_node.specs.Mirrors.{shows}
 use Rattle.kit_node.specs.Turns.{HasWorked, TurnIs}
+use Rattle.kit_node.proofs.ReceiptOrders.{received_nothing, received_since}
+use Rattle.kit_node.proofs.TurnOrders.{received_looked}
 use Rattle.kit_node.proofs.Turning.{closes, ended_seat, looked_place}
 use Rattle.kit_node.proofs.node.Node.answer.Goals as goal
 
@@ -39,3 +41,24 @@ pub returns-in-Err-clause-seat : goal.returns-in-Err-clause-seat
 returns-in-Err-clause-seat g c =
     ended_seat (shows g.Q.Order.entries g.R.Reduction.scheme g.R.Reduction.state) c.args.federation.now c.work.new.self c.end_with.new.self c.in-Err.end (g.G.Ground.place c.is_stopped.new.ground) (g.G.Ground.place c.work.new.ground)
     c.work.ensures.world c.work.ensures.federation c.in-Err.ensures.ends c.end_with.ensures.ended
+
+pub returns-in-Some-clause-order : goal.returns-in-Some-clause-order
+returns-in-Some-clause-order g c = let p : P = g.G.Ground.place c.args.ground.now in received_nothing p p refl
+
+pub returns-then-is_stopped-clause-order : goal.returns-then-is_stopped-clause-order
+returns-then-is_stopped-clause-order g c =
+    let p : P = g.G.Ground.place c.args.ground.now in
+    let q : P = g.G.Ground.place c.is_stopped.new.ground in
+    received_nothing p q (received_looked c.is_stopped.result p q c.is_stopped.ensures.place)
+
+pub returns-in-Ok-clause-order : goal.returns-in-Ok-clause-order
+returns-in-Ok-clause-order g c =
+    let p : P = g.G.Ground.place c.args.ground.now in
+    let q : P = g.G.Ground.place c.is_stopped.new.ground in
+    received_since p q (g.G.Ground.place c.work.new.ground) (received_looked c.is_stopped.result p q c.is_stopped.ensures.place) c.work.ensures.order
+
+pub returns-in-Err-clause-order : goal.returns-in-Err-clause-order
+returns-in-Err-clause-order g c =
+    let p : P = g.G.Ground.place c.args.ground.now in
+    let q : P = g.G.Ground.place c.is_stopped.new.ground in
+    received_since p q (g.G.Ground.place c.work.new.ground) (received_looked c.is_stopped.result p q c.is_stopped.ensures.place) c.work.ensures.order

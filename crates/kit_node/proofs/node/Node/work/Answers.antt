@@ -1,8 +1,9 @@
-use Rattle.std.proofs.Common.{rules, ◌≡◌, ◌≢◌, ◌<◌, ◌||◌, ℕ, Bool, true, false, [], length, sym, ap, ◌∙◌, subst, arith}
+use Rattle.std.proofs.Common.{rules, ◌≡◌, ◌≢◌, ◌<◌, ◌||◌, ℕ, Bool, true, false, [], length, refl, sym, ap, ◌∙◌, subst, arith}
 use Rattle.std.specs.Prelude.{Err, IfErr, None}
 use Rattle.kit_ground.specs.declared.place.Place.{Place}
 use Rattle.kit_rules.specs.Parts.{Parts}
 use Rattle.kit_lbts.specs.declared.view.LbtsView.{LbtsView}
+use Rattle.kit_lbts.specs.Views.{messages_received}
 use Rattle.kit_lbts.proofs.SeatFacts.{places_tell}
 use Rattle.kit_node.specs.declared.ends.NodeEnd.{NodeEnd}
 use Rattle.kit_node.specs.declared.node.Node.{Node}
@@ -13,6 +14,8 @@ use Rattle.kit_node.proofs.Alone.{waits_received}
 use Rattle.kit_node.proofs.Ending.{early_still, ends_at_grant, ends_at_start, ends_held_up, ends_in_rounds, err_then, gone_in_part, gone_settled, start_did, start_mirrors, start_same}
 use Rattle.kit_node.proofs.GrantMirrors.{me_within}
 use Rattle.kit_node.proofs.Reductions.{same_twice}
+use Rattle.kit_node.proofs.ReceiptOrders.{received_nothing, received_then}
+use Rattle.kit_node.proofs.TurnOrders.{received_posted, received_settled, turn_in_order}
 use Rattle.kit_node.proofs.Working.{grant_leaves, settled_by, works}
 use Rattle.kit_node.proofs.node.Node.work.Goals as goal
 
@@ -187,3 +190,43 @@ returns-clause-federation g c =
     let q : P = g.G.Ground.place c.grant.new.ground in
     let gone = gone_settled c.in_ok-posted.posted c.in_ok-reduced.reduced c.settle-released.result p p1 p2 p3 p4 c.requires.world c.in_ok-received.ensures.received c.in_ok-posted.ensures.sent c.in_ok-reduced.ensures.reduced c.settle-released.ensures.settled in
     (grant_leaves c.in_ok-granted.granted p4 q c.in_ok-granted.ensures.granted).federation ∙ (gone.federation ∙ c.requires.federation)
+
+pub returns-in_err-started-clause-order : goal.returns-in_err-started-clause-order
+returns-in_err-started-clause-order g c = let p : P = g.G.Ground.place c.args.ground.now in received_nothing p p refl
+
+pub returns-in_err-posted-clause-order : goal.returns-in_err-posted-clause-order
+returns-in_err-posted-clause-order g c =
+    let p : P = g.G.Ground.place c.args.ground.now in
+    let p1 : P = g.G.Ground.place c.receive.new.ground in
+    let p2 : P = g.G.Ground.place c.post_waiting.new.ground in
+    let sent = c.in_err-posted.ensures.held_up.sent in
+    received_then p p1 p2 c.receive.ensures.order (received_posted sent.count p1 p2 sent.done)
+
+pub returns-in_err-reduced-clause-order : goal.returns-in_err-reduced-clause-order
+returns-in_err-reduced-clause-order g c =
+    let p : P = g.G.Ground.place c.args.ground.now in
+    let p1 : P = g.G.Ground.place c.receive.new.ground in
+    let p2 : P = g.G.Ground.place c.post_waiting.new.ground in
+    let sent = c.in_ok-posted.ensures.sent.sent in
+    let same = received_posted sent.count p1 p2 sent.done in
+    received_then p p1 (g.G.Ground.place c.reduce.new.ground) c.receive.ensures.order (ap (λ (x : P). messages_received x.client) c.in_err-reduced.ensures.refused.1 ∙ same)
+
+pub returns-in_err-granted-clause-order : goal.returns-in_err-granted-clause-order
+returns-in_err-granted-clause-order g c =
+    let p : P = g.G.Ground.place c.args.ground.now in
+    let p1 : P = g.G.Ground.place c.receive.new.ground in
+    let p2 : P = g.G.Ground.place c.post_waiting.new.ground in
+    let p3 : P = g.G.Ground.place c.reduce.new.ground in
+    let p4 : P = g.G.Ground.place c.settle-released.new.ground in
+    let same = received_settled c.in_ok-posted.posted c.in_ok-reduced.reduced c.settle-released.result p1 p2 p3 p4 c.in_ok-posted.ensures.sent c.in_ok-reduced.ensures.reduced c.settle-released.ensures.settled in
+    received_then p p1 (g.G.Ground.place c.grant.new.ground) c.receive.ensures.order (ap (λ (x : P). messages_received x.client) c.in_err-granted.ensures.refused.1 ∙ same)
+
+pub returns-clause-order : goal.returns-clause-order
+returns-clause-order g c =
+    let p : P = g.G.Ground.place c.args.ground.now in
+    let p1 : P = g.G.Ground.place c.receive.new.ground in
+    let p2 : P = g.G.Ground.place c.post_waiting.new.ground in
+    let p3 : P = g.G.Ground.place c.reduce.new.ground in
+    let p4 : P = g.G.Ground.place c.settle-released.new.ground in
+    let q : P = g.G.Ground.place c.grant.new.ground in
+    turn_in_order c.in_ok-posted.posted c.in_ok-reduced.reduced c.settle-released.result c.in_ok-granted.granted p p1 p2 p3 p4 q c.receive.ensures.order c.in_ok-posted.ensures.sent c.in_ok-reduced.ensures.reduced c.settle-released.ensures.settled c.in_ok-granted.ensures.granted
