@@ -1,0 +1,17 @@
+mod Apart
+mod Arranged
+mod Calls
+mod Changed
+mod Days
+mod Edited
+mod Dealt
+mod Gathered
+mod Joined
+mod Laying
+mod Least
+mod Packed
+mod Places
+mod Queue
+mod Shapes
+mod Slices
+mod Spotted

@@ -1,0 +1,5 @@
+pub mod Buckets
+pub mod Held
+pub mod Least
+pub mod Rows
+pub mod Spots
