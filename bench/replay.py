@@ -25,9 +25,9 @@ LETTERS = "abcdefghijklmnop"
 MOST_PASSES = 1_000_000
 
 
-def with_pools(path, folder):
+def with_pools(path, folder, program=RTIK):
     """The file, or one with the greatest pools where its own are short."""
-    if b" short\n" not in run([RTIK, "check"], path)[0]:
+    if b" short\n" not in run([program, "check"], path)[0]:
         return path
     with open(path) as file:
         made = json.load(file)

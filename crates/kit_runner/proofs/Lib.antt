@@ -1,0 +1,14 @@
+mod Numbers
+mod StopSteps
+mod EndsOn
+mod Playing
+mod Closing
+mod PlayerRuns
+mod Openings
+mod Gathering
+mod Dealt
+mod LockPlaying
+mod LockTaking
+mod LockBeginning
+mod LockReports
+mod LockRuns
