@@ -1,5 +1,5 @@
 -- What the end of a replay says of its federation.
-use Rattle.std.proofs.Common.{◌≡◌, ℕ, zero, suc, ◌<◌, ◌≤◌, Bool, true, false, cond, nat_eq, List, [], ◌∷◌, length, filter, get_or, Option, Some, None, option_map, find, refl, sym, subst, ap, ◌∙◌, arith, length-append}
+use Rattle.std.proofs.Common.{◌≡◌, ◌≢◌, ℕ, zero, suc, ◌<◌, ◌≤◌, Bool, true, false, cond, nat_eq, List, [], ◌∷◌, length, filter, get_or, Option, Some, None, option_map, find, refl, sym, subst, ap, ◌∙◌, arith, length-append}
 use Rattle.std.proofs.lemmas.Bool.{false≢true}
 use Rattle.std.proofs.lemmas.List.{length-map}
 use mathlib.Core.Option.{some, some-injective, some-ne-none}
@@ -14,7 +14,7 @@ use Rattle.kit_node.specs.declared.node.NodeReport.{NodeReport}
 use Rattle.kit_replay.specs.Reports.{turns_in}
 use Rattle.kit_replay.specs.Schedules.{AreTaken, FollowsSchedule, GivenTurn, entries_below, is_below, is_turn_of, turns_of, whose}
 use Rattle.kit_replay.specs.Replays.{IsReplay, IsReplayed, LbtsFloor}
-use Rattle.kit_top.specs.Causes.{CanTell, HasBuffers, IsRunOf, Run, most_rounds}
+use Rattle.kit_top.specs.Causes.{CanTell, HasBuffers, IsNamed, IsRunOf, Run, most_rounds}
 use Rattle.kit_top.specs.declared.command.Command.TheVariants.{Replay}
 
 -- a place that is there is among the places
@@ -27,7 +27,7 @@ federate_below : (p : Parts) (f : LbtsFloor) (i : ℕ) (schedule : List ℕ) (en
 federate_below p f i schedule end reports h below = let many : length f.places ≡ length p.federates = h.floor.many in omega arith
 
 -- A NODE HAS ROUNDS LEFT after any schedule, since it opens one in a turn at most
-some_at : {A : Type 0} (xs : List A) (i : ℕ) → i < length xs → (x : A) × (get_elem? xs i ≡ some x)
+pub some_at : {A : Type 0} (xs : List A) (i : ℕ) → i < length xs → (x : A) × (get_elem? xs i ≡ some x)
 some_at [] i h = absurd (omega arith)
 some_at (x ∷ xs) zero h = (x, refl)
 some_at (x ∷ xs) (suc i) h = some_at xs i (omega arith)
@@ -81,6 +81,15 @@ pub can_tell : (p : Parts) (schedule : List ℕ) (end : End) (reports : List Nod
 can_tell p schedule end reports None short h = let P : End → Type 0 = CanTell p reports in subst P (sym h.end_is) tt
 can_tell p schedule end reports (Some f) short h = ended_with p schedule end reports f short h
 
+-- an end that is not Done names a federate that is there
+pub can_name : (p : Parts) (reports : List NodeReport) (end : End) → end ≢ ends.Done → CanTell p reports end → IsNamed p end
+can_name p reports ends.Done other h = other refl
+can_name p reports (ends.Unfinished i) other h = h
+can_name p reports (ends.NoBuffer i n) other h = h
+can_name p reports (ends.SendsSpent i) other h = h
+can_name p reports (ends.RoundsSpent i) other h = absurd h
+can_name p reports ends.NoMemory other h = tt
+
 -- where nobody takes number 16,385, no message has it
 found_none : (b : Bool) (x : Message) (o : Option Message) → cond b (Some x) o ≡ None → (b ≡ false) × (o ≡ None)
 found_none true x o e = absurd (cc)
@@ -95,7 +104,7 @@ sender_none : (o : Option Message) → option_map (λ (m : Message). m.sender) o
 sender_none None e = refl
 sender_none (Some x) e = absurd (cc)
 
-spends_not : (p : Parts) (i : ℕ) → spender p ≡ None → Spends p i → ⊥
+pub spends_not : (p : Parts) (i : ℕ) → spender p ≡ None → Spends p i → ⊥
 spends_not p i none s =
     let m = s.0 in
     let ms = (simulation p).messages in
@@ -124,4 +133,4 @@ replayed_is_enough p schedule end reports None none buffers h = subst (IsEnough 
 replayed_is_enough p schedule end reports (Some f) none buffers h = floor_is_enough p schedule end reports f none buffers h
 
 pub run_is_enough : (p : Parts) (schedule : List ℕ) (r : Run) → spender p ≡ None → HasBuffers (Replay schedule) p → IsRunOf p schedule r → IsEnough p r.end
-run_is_enough p schedule r none buffers h = replayed_is_enough p schedule r.end r.reports r.floor none buffers h
+run_is_enough p schedule r none buffers h = replayed_is_enough p schedule r.end r.reports r.floor none buffers h.0

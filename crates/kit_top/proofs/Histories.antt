@@ -1,5 +1,5 @@
 -- What nodes report of their federates, each as a part of a history, one after another.
-use Rattle.std.proofs.Common.{◌≡◌, ℕ, zero, suc, ◌+◌, ◌<◌, List, [], ◌∷◌, ◌++◌, length, map, get_or, refl, sym, subst, ap, ◌∙◌, arith, length-append}
+use Rattle.std.proofs.Common.{◌≡◌, ℕ, zero, suc, ◌+◌, ◌<◌, List, [], ◌∷◌, ◌++◌, length, map, get_or, Result, Ok, Err, IfOk, refl, sym, subst, ap, ◌∙◌, arith, length-append}
 use mathlib.Core.Option.{some, some-injective, some-ne-none}
 use lib.ListN.{get_elem?}
 use Rattle.std.specs.List.{All}
@@ -14,7 +14,7 @@ use Rattle.kit_rules.specs.Parts.{Parts}
 use Rattle.kit_laws.proofs.Fitting.{simulated_fits}
 use Rattle.kit_model.specs.Journals.{lines_told}
 use Rattle.kit_node.specs.declared.node.NodeReport.{NodeReport}
-use Rattle.kit_replay.specs.Parts.{AreMerged, AreSimulated, AreToldParts, WholePartsMerge}
+use Rattle.kit_replay.specs.Parts.{AreSimulated, AreToldParts, WholePartsMerge}
 use Rattle.kit_replay.specs.Reports.{AreWholeParts}
 
 -- a part is what a report tells
@@ -65,8 +65,8 @@ all_told reports n parts e told = record { many = told.many ∙ e; each = λ i r
 pub lines_fit : (p : Parts) (lines : List Line) (vars : List (List ℕ)) → IsFederation p → AreSimulated p lines vars → All (LineFits p) lines
 lines_fit p lines vars f s = let P : List Line → Type 0 = All (LineFits p) in subst P (sym s.lines_are) (simulated_fits p f)
 
-pub vars_for_each : (p : Parts) (reports : List NodeReport) (parts : List Part) (lines : List Line) (vars : List (List ℕ)) → AreWholeParts p reports → AreToldParts reports parts → AreMerged parts lines vars → length vars ≡ length p.federates
-vars_for_each p reports parts lines vars whole told merged = ap length merged.vars_are ∙ length-map parts vars_in ∙ told.many ∙ whole.many
+pub vars_for_each : (p : Parts) (reports : List NodeReport) (parts given : List Part) (vars : List (List ℕ)) → AreWholeParts p reports → AreToldParts reports parts → given ≡ parts → vars ≡ map vars_in given → length vars ≡ length p.federates
+vars_for_each p reports parts given vars whole told same vars_are = ap length (vars_are ∙ ap (map vars_in) same) ∙ length-map parts vars_in ∙ told.many ∙ whole.many
 
 pub few_reports : (p : Parts) (reports : List NodeReport) → IsFederation p → AreWholeParts p reports → length reports < 256
 few_reports p reports f whole = let many : length reports ≡ length p.federates = whole.many in omega (arith, f.federates.count.1)
@@ -77,3 +77,12 @@ pub simulated : (law : WholePartsMerge) (p : Parts) → IsFederation p → (repo
 simulated law p f reports parts given lines vars whole told same merged vars_are =
     let P : List Part → Type 0 = λ ps. (blocks : List (List Block)) → ArePartsOf ps blocks → IsMerged blocks lines in
     law p f reports parts lines vars whole told (record { lines_are = subst P same merged; vars_are = vars_are ∙ ap (map vars_in) same })
+
+-- what is so of a result, since two other things are
+pub if_ok_both : {A E : Type 0} (r : Result A E) (P Q R : A → Type 0) → ((a : A) → P a → Q a → R a) → IfOk r P → IfOk r Q → IfOk r R
+if_ok_both (Ok a) P Q R f p q = f a p q
+if_ok_both (Err e) P Q R f p q = tt
+
+pub if_ok : {A E : Type 0} (r : Result A E) (P R : A → Type 0) → ((a : A) → P a → R a) → IfOk r P → IfOk r R
+if_ok (Ok a) P R f p = f a p
+if_ok (Err e) P R f p = tt

@@ -2,3 +2,9 @@ pub mod Telling
 pub mod Ends
 pub mod OneCause
 pub mod Histories
+pub mod Decimals
+pub mod WorkerWords
+pub mod WorkerTelling
+pub mod Kept
+pub mod Headlines
+pub mod WorkerLaws

@@ -20,7 +20,7 @@ use Rattle.kit_top.specs.declared.status.Status.TheVariants.{Done, Usage, ReadFa
 use Rattle.kit_top.specs.Causes.{Answers, Causes, EndCauses, FileCauses, FederationCauses, HasBuffers, IsCommand, IsNoCommand, IsReplayCommand, IsWhole, IsThis, IsBadFile, Run, SimulationCauses, bad_file_text, end_of, spent_text, text_of, OneCause, Completes, most_bytes}
 use Rattle.kit_top.proofs.Ends.{IsEnough, run_is_enough}
 
-some_same : {X : Type 0} (x y : X) → Some x ≡ Some y → x ≡ y
+pub some_same : {X : Type 0} (x y : X) → Some x ≡ Some y → x ≡ y
 some_same x y e = cc
 
 ok_same : {X Y : Type 0} (x y : X) (r : Result X Y) → r ≡ Ok x → r ≡ Ok y → x ≡ y
@@ -41,7 +41,7 @@ json_is : (bytes : List ℕ) (d : Data) → Says bytes d → IsNoJson bytes → 
 json_is bytes d says none = let e : Some d ≡ None = sym says.1 ∙ none says.0 in absurd (cc)
 
 -- a file has one federation
-accepted_same : (bytes : List ℕ) (p q : Parts) → IsAccepted bytes p → IsAccepted bytes q → p ≡ q
+pub accepted_same : (bytes : List ℕ) (p q : Parts) → IsAccepted bytes p → IsAccepted bytes q → p ≡ q
 accepted_same bytes p q a b =
     let same : a.0 ≡ b.0 = says_same bytes a.0 b.0 a.1 b.1 in
     ok_same p q (walk a.0) a.2 (ap walk same ∙ b.2)
@@ -72,14 +72,14 @@ bad_cases bytes (file.SendTooSoon path) h = inr h
 bad_cases bytes (file.NotRegulating path) h = inr h
 bad_cases bytes file.NoMemory h = absurd h
 
-bad_same : (bytes : List ℕ) (f g : FileFault) → IsBadFile bytes f → IsBadFile bytes g → f ≡ g
+pub bad_same : (bytes : List ℕ) (f g : FileFault) → IsBadFile bytes f → IsBadFile bytes g → f ≡ g
 bad_same bytes f g a b =
     elim (bad_cases bytes f a) [
       | inl x ↦ elim (bad_cases bytes g b) [ inl y ↦ x.0 ∙ sym y.0 | inr y ↦ absurd (json_is bytes y.0 y.1 x.1) ]
       | inr x ↦ elim (bad_cases bytes g b) [ inl y ↦ absurd (json_is bytes x.0 x.1 y.1) | inr y ↦ fault_same bytes f g x y ]
     ]
 
-accepted_not_bad : (bytes : List ℕ) (p : Parts) (f : FileFault) → IsAccepted bytes p → IsBadFile bytes f → ⊥
+pub accepted_not_bad : (bytes : List ℕ) (p : Parts) (f : FileFault) → IsAccepted bytes p → IsBadFile bytes f → ⊥
 accepted_not_bad bytes p f a b =
     elim (bad_cases bytes f b) [ inl y ↦ json_is bytes a.0 a.1 y.1 | inr y ↦ accepted_no_fault bytes p f a y ]
 
@@ -114,7 +114,7 @@ simulation_same command p s t a b h k =
       ]
     ]
 
-this_same : (status : Status) (words : List ℕ) (s t : Status) (a b : List ℕ) → IsThis status words s a → IsThis status words t b → (s ≡ t) × (a ≡ b)
+pub this_same : (status : Status) (words : List ℕ) (s t : Status) (a b : List ℕ) → IsThis status words s a → IsThis status words t b → (s ≡ t) × (a ≡ b)
 this_same status words s t a b h k = (h.0 ∙ sym k.0, h.1 ∙ sym k.1)
 
 end_same : (p : Parts) (end : End) (s t : Status) (a b : List ℕ) → EndCauses p end s a → EndCauses p end t b → (s ≡ t) × (a ≡ b)
@@ -172,11 +172,11 @@ file_same command bytes q r s t a b alike h k =
       ]
     ]
 
-tail_same : (w : List ℕ) (xs ys : List (List ℕ)) → w ∷ xs ≡ w ∷ ys → xs ≡ ys
+pub tail_same : (w : List ℕ) (xs ys : List (List ℕ)) → w ∷ xs ≡ w ∷ ys → xs ≡ ys
 tail_same w xs ys e = cc
 
 -- words with other first letters are others
-differ : (a b : List (List ℕ)) (m n : ℕ) → a ≡ b → get_or (get_or a 0 []) 0 0 ≡ m → get_or (get_or b 0 []) 0 0 ≡ n → m ≢ n → ⊥
+pub differ : (a b : List (List ℕ)) (m n : ℕ) → a ≡ b → get_or (get_or a 0 []) 0 0 ≡ m → get_or (get_or b 0 []) 0 0 ≡ n → m ≢ n → ⊥
 differ a b m n e here there other = other (sym here ∙ ap (λ (ws : List (List ℕ)). get_or (get_or ws 0 []) 0 0) e ∙ there)
 
 o_not_c : (m n : ℕ) → m ≡ 111 → n ≡ 99 → m ≢ n
@@ -220,12 +220,12 @@ replaying words Check word h = absurd h
 replaying words (Replay schedule) word h = (schedule, word)
 
 -- bytes that were taken whole are those that were left
-all_left : (before : Option (List ℕ)) (xs bytes : List ℕ) → before ≡ Some xs → IfSome before (λ ys. bytes ≡ ys) → bytes ≡ xs
+pub all_left : (before : Option (List ℕ)) (xs bytes : List ℕ) → before ≡ Some xs → IfSome before (λ ys. bytes ≡ ys) → bytes ≡ xs
 all_left None xs bytes e h = absurd (cc)
 all_left (Some ys) xs bytes e h = let is : bytes ≡ ys = h in is ∙ some_same ys xs e
 
 -- and not too many
-not_long : (before after : Option (List ℕ)) (xs bytes : List ℕ) → before ≡ Some xs → bytes ≡ xs → length bytes ≤ most_bytes → Took before after (most_bytes + 1) → ⊥
+pub not_long : (before after : Option (List ℕ)) (xs bytes : List ℕ) → before ≡ Some xs → bytes ≡ xs → length bytes ≤ most_bytes → Took before after (most_bytes + 1) → ⊥
 not_long None after xs bytes e is short took = absurd (cc)
 not_long (Some ys) after xs bytes e is short took =
     let same : length bytes ≡ length ys = ap length (is ∙ sym (some_same ys xs e)) in
@@ -238,7 +238,7 @@ record Wrong (words : List (List ℕ)) (s : Status) (a : List ℕ) : Type 0 wher
   text : a ≡ codes "fault Usage\n"
 
 -- a status is that of a read that failed, or another
-read_fault_cases : (s : Status) → (s ≡ ReadFault) ⊎ (s ≢ ReadFault)
+pub read_fault_cases : (s : Status) → (s ≡ ReadFault) ⊎ (s ≢ ReadFault)
 read_fault_cases ReadFault = inl refl
 read_fault_cases Done = inr (λ e. absurd (cc))
 read_fault_cases Usage = inr (λ e. absurd (cc))

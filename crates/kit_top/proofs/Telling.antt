@@ -1,5 +1,5 @@
 -- What was told for one set of causes was told for another that follows from it.
-use Rattle.std.proofs.Common.{◌≡◌, ◌≢◌, List, [], ℕ, Option, Some, None, IfSome, refl, sym, subst}
+use Rattle.std.proofs.Common.{◌≡◌, ◌≢◌, List, [], ℕ, Option, Some, None, IfSome, refl, sym, subst, ◌∙◌}
 use Rattle.std.specs.Io.KnownBytes.{Appends}
 use Rattle.kit_node.specs.declared.ends.End.{End}
 use Rattle.kit_node.specs.declared.ends.End.TheVariants as ends
@@ -18,7 +18,7 @@ use Rattle.kit_oracle.specs.declared.end.OracleEnd.TheVariants as oracle
 use Rattle.kit_file.specs.declared.fault.FileFault.{FileFault}
 use Rattle.kit_file.specs.declared.fault.FileFault.TheVariants as file
 use Rattle.kit_file.specs.Answers.{IsAccepted, IsFaultAtPath, IsNoJson}
-use Rattle.kit_top.specs.Causes.{Told, Causes, EndCauses, EndsWith, OracleEndCauses, FileCauses, FederationCauses, HasText, IsCommand, IsEnded, IsWhole, IsWithin, IsBadFile, IsTheFault, IsThis, IsAnswered, Run, SimulationCauses, text_of}
+use Rattle.kit_top.specs.Causes.{Told, Causes, EndCauses, EndsWith, OracleEndCauses, FileCauses, FederationCauses, HasText, InputCauses, IsCommand, IsEnded, IsFileRun, IsLeft, IsRun, IsWhole, IsWithin, IsBadFile, IsTheFault, IsThis, IsAnswered, Run, SimulationCauses, text_of}
 
 pub told_weaker : (A B : Status → List ℕ → Type 0) (old new : Option (List ℕ)) (s : Status) → ((s : Status) (text : List ℕ) → A s text → B s text) → Told A old new s → Told B old new s
 told_weaker A B old new Done f h = (h.0, f Done h.0 h.1, h.2)
@@ -109,11 +109,25 @@ bad_file bytes (file.SendTooSoon path) at not_json other = at
 bad_file bytes (file.NotRegulating path) at not_json other = at
 bad_file bytes file.NoMemory at not_json other = absurd (other refl)
 
--- that fault, with its line, is caused by the file
-pub bad_file_causes : (command : Command) (bytes : List ℕ) (run : Option Run) (f : FileFault) → IsFaultAtPath bytes f → (f ≡ file.NotJson → IsNoJson bytes) → (s : Status) (text : List ℕ) → IsTheFault f s text → FileCauses command bytes run s text
-bad_file_causes command bytes run f at not_json s text h =
-    let P : Status → Type 0 = λ s. FileCauses command bytes run s text in
-    subst P (sym h.1.0) (bad_file bytes f at not_json h.0, h.1.1)
+-- that fault, with its line, is caused by an input with these bytes
+pub bad_file_causes : {S : Type 0} (g : Ghosts S) (old new : S) (bytes : List ℕ) (f : FileFault) → IsWhole g old new bytes → IsFaultAtPath bytes f → (f ≡ file.NotJson → IsNoJson bytes) → (s : Status) (text : List ℕ) → IsTheFault f s text → InputCauses g old new s text
+bad_file_causes g old new bytes f whole at not_json s text h =
+    let P : Status → Type 0 = λ s. InputCauses g old new s text in
+    subst P (sym h.1.0) (bytes, whole, bad_file bytes f at not_json h.0, h.1.1)
+
+-- what an input causes that is none, the words of a command cause
+pub input_causes : {S : Type 0} (g : Ghosts S) (words : List (List ℕ)) (old new : S) (command : Command) (run : Option Run) → IsCommand words command → (s : Status) (text : List ℕ) → InputCauses g old new s text → Causes g words old new run s text
+input_causes g words old new command run word ReadFault text h = (command, word, h.0, h.1, h.2)
+input_causes g words old new command run word TooLong text h = (command, word, h.0, h.1)
+input_causes g words old new command run word (BadFile x) text h = (command, word, h.0, h.1, (h.2, h.3))
+input_causes g words old new command run word Done text h = absurd h
+input_causes g words old new command run word Usage text h = absurd h
+input_causes g words old new command run word (Unfinished i) text h = absurd h
+input_causes g words old new command run word (NoBuffer i n) text h = absurd h
+input_causes g words old new command run word (SendsSpent i) text h = absurd h
+input_causes g words old new command run word (RoundsSpent i) text h = absurd h
+input_causes g words old new command run word WriteFault text h = absurd h
+input_causes g words old new command run word NoMemory text h = absurd h
 
 -- a status with its text that is told is that status, told
 pub told_as : (status : Status) (words : List ℕ) (old new : Option (List ℕ)) → HasText status → Appends old new words → Told (IsThis status words) old new status
@@ -177,11 +191,11 @@ answered_told g words from to old new ended e h =
         }
 
 -- an end that left nothing
-pub ends_empty : (A : Option Run → Status → List ℕ → Type 0) (R : Run → Type 0) (old new : Option (List ℕ)) (ended : Ended) (status : Status) → ended.status ≡ status → ended.nodes.items ≡ [] → ended.floor ≡ None
+pub ends_empty : (A : Option Run → Status → List ℕ → Type 0) (R : Run → Type 0) (old new : Option (List ℕ)) (ended : Ended) (status : Status) → ended.status ≡ status → ended.nodes.items ≡ [] → ended.floor ≡ None → ended.account ≡ None
     → Told (A None) old new status → EndsWith A R old new ended
-ends_empty A R old new ended status e none floor h =
+ends_empty A R old new ended status e none floor account h =
     let T : Status → Type 0 = λ s. Told (A None) old new s in
-    record { run = None; replayed = tt; left = (none, floor); told = subst T (sym e) h }
+    record { run = None; replayed = tt; left = (none, floor, account); told = subst T (sym e) h }
 
 if_some_weaker : (run : Option Run) (R Q : Run → Type 0) → ((r : Run) → R r → Q r) → IfSome run R → IfSome run Q
 if_some_weaker None R Q f h = tt
@@ -203,3 +217,19 @@ oracle_causes command p (oracle.SendsSpent i) spent s text h =
     let P : Status → Type 0 = λ s. SimulationCauses command p s text in
     subst P (sym h.0) (spent, h.1)
 oracle_causes command p oracle.NoMemory spent s text h = absurd h
+
+-- what was replayed left no account of shared words
+run_left_none : {S : Type 0} (g : Ghosts S) (words : List (List ℕ)) (old new : S) (r : Run) → IsRun g words old new r → r.account ≡ None
+run_left_none g words old new r h = by h.0 h.4
+  where
+    by : (command : Command) → IsFileRun command h.2 r → r.account ≡ None
+    by Oracle x = absurd x.2
+    by Check x = absurd x.2
+    by (Replay schedule) x = x.2.1
+
+pub no_account : {S : Type 0} (g : Ghosts S) (words : List (List ℕ)) (from to : S) (old new : Option (List ℕ)) (ended : Ended) → IsEnded g words from to old new ended → ended.account ≡ None
+no_account g words from to old new ended h = by h.run h.replayed h.left
+  where
+    by : (run : Option Run) → IfSome run (IsRun g words from to) → IsLeft run ended.nodes.items ended.floor ended.account → ended.account ≡ None
+    by None is left = left.2
+    by (Some r) is left = left.2 ∙ run_left_none g words from to r is

@@ -19,11 +19,12 @@ use Rattle.kit_oracle.specs.declared.end.OracleEnd.{OracleEnd}
 use Rattle.kit_oracle.specs.declared.end.OracleEnd.TheVariants as oracle
 use Rattle.kit_replay.specs.Replays.{IsReplayed, LbtsFloor}
 use Rattle.kit_replay.specs.Reports.{AreWholeParts}
+use Rattle.kit_runner.specs.Runs.{LbtsAccount}
 use Rattle.kit_top.specs.declared.command.Command.{Command}
 use Rattle.kit_top.specs.declared.command.Command.TheVariants.{Oracle, Check, Replay}
 use Rattle.kit_top.specs.declared.ended.Ended.{Ended}
 use Rattle.kit_top.specs.declared.status.Status.{Status}
-use Rattle.kit_top.specs.declared.status.Status.TheVariants.{Done, Usage, ReadFault, TooLong, BadFile, Unfinished, NoBuffer, SendsSpent, WriteFault, NoMemory}
+use Rattle.kit_top.specs.declared.status.Status.TheVariants.{Done, Usage, ReadFault, TooLong, BadFile, Unfinished, NoBuffer, SendsSpent, RoundsSpent, WriteFault, NoMemory}
 
 -- the words are those of a command: its one word, or `replay` and the words of its schedule
 abbrev pub IsCommand : List (List ℕ) → Command → Type 0
@@ -45,11 +46,12 @@ text_of Oracle p = simulation_text p
 text_of Check p = check_text p
 text_of (Replay schedule) p = simulation_text p
 
--- WHAT WAS REPLAYED: how the run ended, the reports of its nodes, and its floor
+-- WHAT WAS RUN: how the run ended, the reports of its nodes, and its floor, or the account of a floor of shared words
 pub record Run : Type 0 where
   pub end : End
   pub reports : List NodeReport
   pub floor : Option LbtsFloor
+  pub account : Option LbtsAccount
 
 -- the most rounds that a node takes part in
 abbrev pub most_rounds : ℕ
@@ -57,7 +59,7 @@ most_rounds = 2 ^ 40 - 1
 
 -- the run was one of this federation, with the turns of this schedule
 abbrev pub IsRunOf : Parts → List ℕ → Run → Type 0
-IsRunOf p schedule r = IsReplayed p schedule most_rounds r.end r.reports r.floor
+IsRunOf p schedule r = IsReplayed p schedule most_rounds r.end r.reports r.floor × (r.account ≡ None)
 
 -- how it ended, if there was one
 abbrev pub end_of : Option Run → Option End
@@ -68,7 +70,7 @@ end_of (Some r) = Some r.end
 abbrev pub most_bytes : ℕ
 most_bytes = 1048576
 
--- these bytes were all taken: a read of the call showed the end of the input, and where the source tells its bytes,
+-- THE INPUT: these bytes were all taken: a read of the call showed the end of the input, and where the source tells its bytes,
 -- these are all that were left
 pub record IsWhole {S : Type 0} (g : Ghosts S) (old new : S) (bytes : List ℕ) : Type 0 where
   pub ended : ShowsEnd g new
@@ -103,6 +105,15 @@ abbrev pub OracleEndCauses : Parts → OracleEnd → Status → List ℕ → Typ
 OracleEndCauses p (oracle.SendsSpent i) s text = IsThis (SendsSpent i) (spent_text p i) s text
 OracleEndCauses p oracle.NoMemory s text = ⊥
 
+-- the federate that an end names is there
+abbrev pub IsNamed : Parts → End → Type 0
+IsNamed p ends.Done = ⊥
+IsNamed p (ends.Unfinished i) = i < length p.federates
+IsNamed p (ends.NoBuffer i number) = i < length p.federates
+IsNamed p (ends.SendsSpent i) = i < length p.federates
+IsNamed p (ends.RoundsSpent i) = i < length p.federates
+IsNamed p ends.NoMemory = Unit {0}
+
 -- what the end of a replay is told by: its federate, or, where it is Done, whole reports; a schedule ends before the rounds
 -- that there may be
 abbrev pub CanTell : Parts → List NodeReport → End → Type 0
@@ -113,14 +124,20 @@ CanTell p reports (ends.SendsSpent i) = i < length p.federates
 CanTell p reports (ends.RoundsSpent i) = ⊥
 CanTell p reports ends.NoMemory = Unit {0}
 
+-- what an end causes that names a federate
+abbrev pub BadEndCauses : Parts → End → Status → List ℕ → Type 0
+BadEndCauses p ends.Done s text = ⊥
+BadEndCauses p (ends.Unfinished i) s text = IsThis (Unfinished i) (federate_text (codes "Unfinished") p i) s text
+BadEndCauses p (ends.NoBuffer i number) s text = IsThis (NoBuffer i number) (no_buffer_text p i number) s text
+BadEndCauses p (ends.SendsSpent i) s text = IsThis (SendsSpent i) (spent_text p i) s text
+BadEndCauses p (ends.RoundsSpent i) s text = IsThis (RoundsSpent i) (federate_text (codes "RoundsSpent") p i) s text
+BadEndCauses p ends.NoMemory s text = ⊥
+
 -- what the end of a replay causes
 abbrev pub EndCauses : Parts → End → Status → List ℕ → Type 0
 EndCauses p ends.Done s text = IsThis Done (simulation_text p) s text
-EndCauses p (ends.Unfinished i) s text = IsThis (Unfinished i) (federate_text (codes "Unfinished") p i) s text
-EndCauses p (ends.NoBuffer i number) s text = IsThis (NoBuffer i number) (no_buffer_text p i number) s text
-EndCauses p (ends.SendsSpent i) s text = IsThis (SendsSpent i) (spent_text p i) s text
 EndCauses p (ends.RoundsSpent i) s text = ⊥
-EndCauses p ends.NoMemory s text = ⊥
+EndCauses p end s text = BadEndCauses p end s text
 
 -- what a replay with a schedule causes
 abbrev pub ReplayCauses : List ℕ → Parts → Option Run → Status → List ℕ → Type 0
@@ -165,6 +182,17 @@ IsBadFile bytes file.NoMemory = ⊥
 abbrev pub IsTheFault : FileFault → Status → List ℕ → Type 0
 IsTheFault fault s text = (fault ≢ file.NoMemory) × IsThis (BadFile fault) (bad_file_text fault) s text
 
+-- the input is a file of this federation
+abbrev pub IsInput : {S : Type 0} → Ghosts S → S → S → Parts → Type 0
+IsInput g old new p = (bytes : List ℕ) × IsWhole g old new bytes × IsAccepted bytes p
+
+-- what an input causes that is none
+abbrev pub InputCauses : {S : Type 0} → Ghosts S → S → S → Status → List ℕ → Type 0
+InputCauses g old new ReadFault text = Rose (g.faults old) (g.faults new) × TookAtMost (g.left old) (g.left new) most_bytes × (text ≡ codes "fault ReadFault\n")
+InputCauses g old new TooLong text = Took (g.left old) (g.left new) (most_bytes + 1) × (text ≡ codes "fault TooLong\n")
+InputCauses g old new (BadFile fault) text = (bytes : List ℕ) × IsWhole g old new bytes × IsBadFile bytes fault × (text ≡ bad_file_text fault)
+InputCauses g old new s text = ⊥
+
 -- what a command makes of the bytes of a file
 abbrev pub FileCauses : Command → List ℕ → Option Run → Status → List ℕ → Type 0
 FileCauses command bytes run (BadFile fault) text = IsBadFile bytes fault × (text ≡ bad_file_text fault)
@@ -208,15 +236,15 @@ pub record IsAnswered {S : Type 0} (g : Ghosts S) (words : List (List ℕ)) (fro
   pub written : Appends old new (text_of command federation)
 
 -- what is left is what the run left; nothing, where there was none
-abbrev pub IsLeft : Option Run → List NodeReport → Option LbtsFloor → Type 0
-IsLeft None reports floor = (reports ≡ []) × (floor ≡ None)
-IsLeft (Some r) reports floor = (reports ≡ r.reports) × (floor ≡ r.floor)
+abbrev pub IsLeft : Option Run → List NodeReport → Option LbtsFloor → Option LbtsAccount → Type 0
+IsLeft None reports floor account = (reports ≡ []) × (floor ≡ None) × (account ≡ None)
+IsLeft (Some r) reports floor account = (reports ≡ r.reports) × (floor ≡ r.floor) × (account ≡ r.account)
 
--- an end by these causes: what was replayed, if anything was, what that left, and what was told
+-- an end by these causes: what was run, if anything was, what that left, and what was told
 pub record EndsWith (causes : Option Run → Status → List ℕ → Type 0) (replays : Run → Type 0) (old new : Option (List ℕ)) (ended : Ended) : Type 0 where
   pub run : Option Run
   pub replayed : IfSome run replays
-  pub left : IsLeft run ended.nodes.items ended.floor
+  pub left : IsLeft run ended.nodes.items ended.floor ended.account
   pub told : Told (causes run) old new ended.status
 
 -- a run for a command and a federation, for a file of one, and for the words and the input

@@ -1,2 +1,6 @@
 pub mod Codes
 pub mod Causes
+pub mod WorkerCommands
+pub mod WorkerRuns
+pub mod Headline
+pub mod WorkerLaws

@@ -1,18 +1,16 @@
-//! What the commands answer to a file.
+//! What the commands without workers answer to a federation.
 
 ghost use Rattle.std.specs.Prelude.{◌≡◌, ◌<◌, None, Some, length, IfOk, OnOk};
 ghost use Rattle.kit_io.specs.Causes.{Rose};
 ghost use Rattle.kit_oracle.specs.Ends.{IfSpent, IfSpentAt};
 ghost use Rattle.kit_rules.specs.Simulation.{spender};
-ghost use Rattle.kit_top.specs.Causes.{EndsWith, FederationCauses, FileCauses, IsFederationRun};
-ghost use Rattle.kit_top.specs.Causes.{IsFileRun, OracleEndCauses, SimulationCauses, Told, text_of};
+ghost use Rattle.kit_top.specs.Causes.{EndsWith, FederationCauses, IsFederationRun};
+ghost use Rattle.kit_top.specs.Causes.{OracleEndCauses, SimulationCauses, Told, text_of};
 
-use crate::bad_file::tell_bad_file;
 use crate::federates::tell_federate;
 use crate::replays::tell_replay;
 use crate::writing::tell;
 use crate::{Command, Ended, Status};
-use kit_file::read_federation;
 use kit_io::Sink;
 use kit_oracle::{OracleEnd, need, simulate};
 use kit_report::{need_text, text};
@@ -85,7 +83,7 @@ fn tell_check<K: Sink>(alloc: Global, federation: &Federation, sink: &mut K) -> 
 }
 
 /// What a command does with a federation.
-fn tell_federation<K: Sink>(
+pub(crate) fn tell_federation<K: Sink>(
     alloc: Global,
     command: &Command,
     federation: &Federation,
@@ -100,23 +98,5 @@ fn tell_federation<K: Sink>(
         Command::Oracle => Ended::empty(alloc, tell_oracle(alloc, federation, sink)),
         Command::Check => Ended::empty(alloc, tell_check(alloc, federation, sink)),
         Command::Replay(schedule) => tell_replay(alloc, federation, schedule, sink),
-    }
-}
-
-/// What a command does with the bytes of a file.
-pub(crate) fn tell_file<K: Sink>(
-    alloc: Global,
-    command: &Command,
-    bytes: &[u8],
-    sink: &mut K,
-) -> Ended
-    ensures told { EndsWith (FileCauses command.now bytes.now) (IsFileRun command.now bytes.now)
-        (K.holds sink.old) (K.holds sink.new) result }
-    ensures fault { result.status ≡ Status.WriteFault
-        → Rose (K.faults sink.old) (K.faults sink.new) }
-{
-    match read_federation(alloc, bytes) {
-        Ok(federation) => tell_federation(alloc, command, &federation, sink),
-        Err(fault) => Ended::empty(alloc, tell_bad_file(alloc, fault, sink)),
     }
 }

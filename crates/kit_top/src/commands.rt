@@ -5,14 +5,12 @@ ghost use Rattle.kit_io.specs.Causes.{Rose};
 ghost use Rattle.kit_top.specs.Causes.{IsAnswered, IsCommand, IsEnded, IsNoCommand};
 ghost use Rattle.kit_top.specs.Causes.{Completes, OneCause};
 
-use crate::answers::tell_file;
+use crate::answers::tell_federation;
+use crate::input::read_input;
 use crate::writing::tell;
 use crate::{Command, Ended, Status, Word};
-use kit_io::{ReadEnd, Sink, Source, read_all};
+use kit_io::{Sink, Source};
 use std::alloc::{AllocError, Global};
-
-/// The most bytes of an input.
-const MOST_BYTES: usize = 1_048_576;
 
 /// Answers a command by the source's bytes.
 fn answer_command<S: Source, K: Sink>(
@@ -27,15 +25,9 @@ fn answer_command<S: Source, K: Sink>(
     ensures fault { result.status ≡ Status.WriteFault
         → Rose (K.faults sink.old) (K.faults sink.new) }
 {
-    match read_all(alloc, source, MOST_BYTES) {
-        Ok(bytes) => tell_file(alloc, command, &bytes, sink),
-        Err(ReadEnd::NoMemory) => Ended::empty(alloc, Status::NoMemory),
-        Err(ReadEnd::TooLong) => {
-            Ended::empty(alloc, tell(sink, b"fault TooLong\n", Status::TooLong))
-        }
-        Err(ReadEnd::ReadFault) => {
-            Ended::empty(alloc, tell(sink, b"fault ReadFault\n", Status::ReadFault))
-        }
+    match read_input(alloc, source, sink) {
+        Ok(federation) => tell_federation(alloc, command, &federation, sink),
+        Err(status) => Ended::empty(alloc, status),
     }
 }
 

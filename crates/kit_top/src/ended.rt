@@ -1,6 +1,7 @@
 ghost use Rattle.std.specs.Prelude.{◌≡◌, [], None};
 
 use crate::Status;
+use kit_floor::FloorAccount;
 use kit_ground::PlainFloor;
 use kit_lbts::Lbts;
 use kit_node::NodeReport;
@@ -10,11 +11,14 @@ use std::alloc::Global;
 #[derive(Drop)]
 pub struct Ended {
     pub status: Status,
-    /// The reports of the nodes that `replay` ran, in the order of the federates; none, where
-    /// nothing was run.
+    /// The reports of the nodes that were run, in the order of the federates; none, where nothing
+    /// was run.
     pub nodes: Vec<NodeReport>,
-    /// The floor that they ran on, at its end.
+    /// The floor that the nodes of `replay` and `lock` ran on, at its end.
     pub floor: Option<PlainFloor<Lbts>>,
+    /// What the floor came to that the nodes of `run` and `trial` ran on, whose words threads
+    /// share.
+    pub account: Option<FloorAccount<Lbts>>,
 }
 
 impl Ended {
@@ -23,11 +27,13 @@ impl Ended {
         ensures status { result.status ≡ status }
         ensures nodes { result.nodes.items ≡ [] }
         ensures floor { result.floor ≡ None }
+        ensures account { result.account ≡ None }
     {
         Ended {
             status,
             nodes: Vec::new(alloc),
             floor: None,
+            account: None,
         }
     }
 }

@@ -2,20 +2,31 @@
 #![tactic(auto)]
 
 mod answers;
+mod bad_end;
 mod bad_file;
 mod command;
 mod commands;
 mod ended;
 mod federates;
+mod history;
+mod input;
+mod laws;
 mod replays;
 mod status;
+mod top;
+mod worker_command;
+mod worker_runs;
 mod writing;
 
 pub use command::Command;
 pub use commands::{completeness, one_cause, plain};
 pub use ended::Ended;
+pub use kit_runner::{Gate, Through};
 pub use kit_schedule::Word;
+pub use laws::{completeness_by_workers, one_cause_by_workers};
 pub use status::Status;
+pub use top::{rtik, rules_keep_it};
+pub use worker_command::WorkerCommand;
 
 #[cfg(test)]
 mod tests;

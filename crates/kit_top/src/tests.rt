@@ -1,4 +1,5 @@
 mod files;
+mod workers;
 
 use super::*;
 use files::{FAULTS, NEEDS, RADAR, RADAR_FIRST, RADAR_LAST, REPLAYS, SHORT_STEP, TEXTS};
@@ -82,7 +83,8 @@ fn faults_of_files_give_their_lines(rt: HostRuntime) -> Result<(), AllocError> {
     Ok(())
 }
 
-/// A file whose first federate sends 71 messages to the second at its start, and takes the last back.
+/// A file whose first federate sends 71 messages to the second at its start, and takes the last
+/// back.
 fn many_at_once(alloc: Global) -> Result<Vec<u8>, AllocError> {
     let mut file = Vec::from_slice(
         alloc,

@@ -3,9 +3,9 @@
 #![tactic(auto)]
 
 use kit_io::{StdSink, StdSource};
-use kit_top::{Word, plain};
+use kit_top::{Through, Word, rtik};
 use std::process::ExitCode;
-use std::{env, io};
+use std::{array, env, io};
 
 // The words of the command line, after the program's name.
 fn words_of(rt: &HostRuntime) -> io::Result<Vec<Word>> {
@@ -22,6 +22,7 @@ fn main(rt: HostRuntime) -> ExitCode {
     };
     let mut source = StdSource::new(rt.stdin());
     let mut sink = StdSink::new(rt.stdout());
-    let ended = plain(rt.alloc(), &words, &mut source, &mut sink);
+    let mut gates: [Through; 16] = array::from_fn(|_| Through);
+    let ended = rtik(&rt, rt.alloc(), &words, &mut source, &mut sink, &mut gates);
     ExitCode::from(ended.status.code())
 }

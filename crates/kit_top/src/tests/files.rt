@@ -147,6 +147,66 @@ pub(crate) const REPLAYS: [(&str, &str, u8, &str); 10] = [
     ("replay", SHORT_STEP, 6, "fault Unfinished a\n"),
 ];
 
+/// The file that takes its message back at once, with one buffer.
+const ONE_BUFFER_AT_ONCE: &str =
+    r#"{"version":1,"end":4,"buffers":1,"groups":[{"name":"g","members":["b"]}],"federates":[{"name":"a","lookahead":2,"advance":{"tar":4},"vars":[{"name":"m","value":0}],"rules":[{"on":"start","do":[{"send":"g","delay":4,"value":9,"keep":"m"},{"retract":"m"}]}]},{"name":"b","lookahead":1,"advance":{"tar":4}}]}"#;
+
+/// Runs by workers, each by the words and the file, with the exit status and what is written.
+pub(crate) const RUNS: [(&str, &str, u8, &str); 12] = [
+    (
+        "run 2",
+        TWO_BUFFERS,
+        0,
+        "1 a grant\n2 a grant\n3 a grant\n4 a grant\n5 a grant\n5 b grant\n6 a grant\n7 a grant\n8 a grant\n8 b got g a#1 @6 = 1\n8 b got g a#2 @7 = 2\n8 b grant\nend a\nend b\n",
+    ),
+    (
+        "lock 1",
+        ONE_TIME,
+        0,
+        "3 c got g a#1 @3 = 1\n3 c got g b#1 @3 = 2\n3 c grant\n4 a grant\n4 b grant\n4 c grant\nend a\nend b\nend c\n",
+    ),
+    (
+        "lock 16",
+        ONE_TIME,
+        0,
+        "3 c got g a#1 @3 = 1\n3 c got g b#1 @3 = 2\n3 c grant\n4 a grant\n4 b grant\n4 c grant\nend a\nend b\nend c\n",
+    ),
+    (
+        "lock 2",
+        SHORT_STEP,
+        0,
+        "1 a grant\n1 b got g a#1 @1 = 7\n1 b grant\nend a\nend b\n",
+    ),
+    (
+        "run 16",
+        SHORT_STEP,
+        0,
+        "1 a grant\n1 b got g a#1 @1 = 7\n1 b grant\nend a\nend b\n",
+    ),
+    ("lock 2", ONE_BUFFER_AT_ONCE, 7, "fault NoBuffer a 2\n"),
+    ("run 1", ONE_BUFFER_AT_ONCE, 7, "fault NoBuffer a 2\n"),
+    ("run 2", ONE_BUFFER_AT_ONCE, 7, "fault NoBuffer a 2\n"),
+    (
+        "run 2",
+        MOST_BUFFERS,
+        0,
+        "4 a grant\n4 b grant\nend a m=1\nend b\n",
+    ),
+    (
+        "run 2",
+        LISTENER,
+        0,
+        "1 b grant\n2 b grant\n3 b grant\n4 b grant\n5 a grant\n5 b grant\n6 b grant\n7 b grant\n8 b grant\n9 b grant\n10 a grant\n10 b grant\nend a\nend b\n",
+    ),
+    ("run 1", "", 5, "fault BadFile NotJson\n"),
+    (
+        "oracle",
+        ONE_FEDERATE,
+        0,
+        "1 a grant\n2 a grant\n3 a grant\nend a\n",
+    ),
+];
+
 /// Files that are accepted, each with the text of its needs.
 pub(crate) const NEEDS: [(&str, &str); 7] = [
     (

@@ -1,7 +1,7 @@
 use Rattle.std.proofs.Common.{◌+◌, List, sym, subst, arith}
 use Rattle.kit_base.specs.declared.history.Part.{Part}
 use Rattle.kit_top.proofs.Histories.{AreTold, more_told}
-use Rattle.kit_top.proofs.replays.parts_of.Goals as goal
+use Rattle.kit_top.proofs.history.parts_of.Goals as goal
 
 pub loop-federate-preserved : goal.loop-federate-preserved
 loop-federate-preserved c =
