@@ -37,6 +37,11 @@ pub record HasRoomFor {Q : Type 0} (spare : Q → ℕ) (count : ℕ) (i : Inbox 
   pub orphans : length i.orphans.items + count ≤ vec_capacity i.orphans
   pub journal : count ≤ j.spare
 
+-- for all that one sender may have posted, before it is collected
+pub record HasRoomToReceive {Q : Type 0} (spare : Q → ℕ) (most : ℕ) (i : Inbox Q) (j : Journal) : Type 0 where
+  pub inbox : HasRoom spare most i
+  pub journal : most ≤ j.spare
+
 -- one message takes the room of one at most
 pub record KeepsRoom {Q : Type 0} (spare : Q → ℕ) (i i' : Inbox Q) : Type 0 where
   pub queue : spare i.queue ≤ spare i'.queue + 1

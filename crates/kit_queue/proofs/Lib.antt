@@ -1,3 +1,4 @@
 pub mod Keys
 pub mod Waiting
 pub mod Places
+pub mod Early
