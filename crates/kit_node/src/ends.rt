@@ -26,17 +26,22 @@ pub enum Turn {
 }
 
 /// Why a node takes no further steps.
-#[derive(Clone, Copy, Debug, PartialEq, Eq)]
+#[derive(Clone, Copy, Debug, PartialEq, Eq, thiserror::Error)]
 pub enum NodeEnd {
     /// The end time was granted.
+    #[error("the end time was granted")]
     Finished,
     /// No buffer could be had for the message of this number.
+    #[error("no buffer could be had for message {number}")]
     NoBuffer { number: u16 },
     /// A message would have taken number 16,385.
+    #[error("a message would have taken number 16,385")]
     SendsSpent,
     /// Another round would have gone past the limit.
+    #[error("another round would have gone past the limit")]
     RoundsSpent,
     /// There was no memory.
+    #[error("memory ran out")]
     NoMemory,
 }
 
@@ -92,18 +97,24 @@ impl From<ApplyEnd> for NodeEnd {
 }
 
 /// What a run of a federation came to.
-#[derive(Clone, Copy, Debug, PartialEq, Eq)]
+#[derive(Clone, Copy, Debug, PartialEq, Eq, thiserror::Error)]
 pub enum End {
     /// Every federate was granted the end time.
+    #[error("every federate was granted the end time")]
     Done,
     /// This federate, the least of those, was not granted the end time.
+    #[error("federate {federate} was not granted the end time")]
     Unfinished { federate: u8 },
     /// No buffer could be had for this message of this federate.
+    #[error("federate {federate} had no buffer for message {number}")]
     NoBuffer { federate: u8, number: u16 },
     /// This federate would have taken number 16,385.
+    #[error("federate {federate} would have taken number 16,385 for a message")]
     SendsSpent { federate: u8 },
     /// This federate would have gone past the limit of rounds.
+    #[error("federate {federate} would have gone past the limit of rounds")]
     RoundsSpent { federate: u8 },
     /// There was no memory.
+    #[error("memory ran out")]
     NoMemory,
 }

@@ -13,7 +13,8 @@ mod simulation;
 mod times;
 
 pub use end::OracleEnd;
-pub use simulation::{need, simulate};
+pub use observer::Observer;
+pub use simulation::{need, observe, simulate};
 
 #[cfg(test)]
 mod tests;

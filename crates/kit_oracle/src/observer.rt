@@ -12,17 +12,23 @@ use kit_rules::Federation;
 use std::alloc::AllocError;
 
 /// What is told of a simulation while it runs: of each delivery, and of each grant after its
-/// deliveries.
-pub(crate) trait Observer {
-    // what it shows of a federation's simulation after so many grants, whose lines are these
+/// deliveries, in the order in which [`simulate`](crate::simulate) has them as lines.
+///
+/// An observer keeps what it likes: a count, the lines up to a time, a text of its own. What that
+/// has to do with the simulation it says by `shows`, and each of its calls is proved to keep it.
+/// Where it answers that there was no memory, the simulation ends.
+pub trait Observer {
+    // what it shows of a federation's simulation after so many turns, whose lines are these
     ghost shows: { Parts → ℕ → List Line → Self → Type 0 };
 
-    /// A message is delivered with the grant of a time.
+    /// A message is delivered with the grant of a time. Whatever it showed, it shows with one more
+    /// line.
     fn deliver(&mut self, granted: u64, federate: u8, message: Message) -> Result<(), AllocError>
         ensures { OnOk result (Adds shows self.old self.new
             (line.Deliver granted federate message ∷ [])) };
 
-    /// A federate is granted a time, with all that it sends at its grant.
+    /// A federate is granted a time: the pair is that time and the federate. `made` has all that it
+    /// sends at its grant, transported or not.
     fn grant(
         &mut self,
         federation: &Federation,
@@ -35,7 +41,8 @@ pub(crate) trait Observer {
             shows federation.now n ls self.old → OnOk result
             (shows federation.now (n + 1) (ls ++ line.Grant pair.0 pair.1 ∷ []) self.new) };
 
-    // where nobody waits, a further turn changes nothing
+    // Where no federate stands below the end, a further turn changes nothing. Whoever does not
+    // count turns has this at once, as a list of lines does.
     ghost over: { (p : Parts) (n : ℕ) (ls : List Line) (s : Self) →
         next_grant p (after_grants p n (world_at_start p)) ≡ None →
         shows p n ls s → shows p (n + 1) ls s };

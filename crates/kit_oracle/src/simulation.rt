@@ -1,5 +1,6 @@
 ghost use Rattle.std.specs.Prelude.{◌≡◌, ◌*◌, ◌≤◌, ◌<◌, [], length, map};
 ghost use Rattle.std.specs.Prelude.{find, Some, None, OnOk, IfOk, All};
+ghost use Rattle.kit_rules.specs.Federation.{IsFederation};
 ghost use Rattle.kit_rules.specs.Fits.{LineFits};
 ghost use Rattle.kit_rules.specs.Need.{needs_of};
 ghost use Rattle.kit_rules.specs.Simulation.{world_at_start, simulation, spender};
@@ -62,13 +63,38 @@ fn vars_of(alloc: Global, desks: &[Desk]) -> Result<Items<[u32; 8]>, AllocError>
     Ok(vars)
 }
 
+/// Simulates a federation to the end, as [`simulate`] does, and tells an observer of each delivery
+/// and each grant. It gives the variables' closing values, federate by federate.
+// Compiled alone, the loop is as fast whatever else its caller does; so is that of `need`.
+#[inline(never)]
+pub fn observe<O: Observer>(
+    alloc: Global,
+    federation: &Federation,
+    observer: &mut O,
+) -> Result<Items<[u32; 8]>, OracleEnd>
+    requires { O.shows federation.now 0 [] observer.old }
+    ensures shows { OnOk result
+        (O.shows federation.now (length federation.now.federates * federation.now.end)
+        (lines_of (simulation federation.now).blocks) observer.new) }
+    ensures vars { IfOk result (λ vars. vars ≡ closing_vars (simulation federation.now)) }
+    ensures none { OnOk result (spender federation.now ≡ None) }
+    ensures spent { IfSpent result (λ i. spender federation.now ≡ Some i) }
+    ensures within { IfSpent result (λ i. i < length federation.now.federates) }
+    ensures each { IfOk result (λ vars. length vars ≡ length federation.now.federates) }
+    ensures sound { IsFederation federation.now }
+{
+    let mut made = Vec::new(alloc);
+    let mut desks = open_all(alloc, federation, &mut made)?;
+    run_all(federation, &mut desks, &mut made, observer)?;
+    let vars = vars_of(alloc, &desks)?;
+    Ok(vars)
+}
+
 /// The sequential simulation of a federation, to the end.
 ///
 /// As long as a federate stands below the end, the one whose next grant is due first is granted
 /// it, with the messages that are due then; of several the first in the order of the federates.
 /// It ends with `SendsSpent` where a federate takes number 16,385, and names the first to do so.
-// Compiled alone, the loop is as fast whatever else its caller does; so is that of `need`.
-#[inline(never)]
 pub fn simulate(alloc: Global, federation: &Federation) -> Result<History, OracleEnd>
     ensures lines { IfOk result (λ h. h.lines ≡ lines_of (simulation federation.now).blocks) }
     ensures vars { IfOk result (λ h. h.vars ≡ closing_vars (simulation federation.now)) }
@@ -80,11 +106,8 @@ pub fn simulate(alloc: Global, federation: &Federation) -> Result<History, Oracl
     ensures fits { IfOk result (λ h. All (LineFits federation.now) h.lines) }
     ensures each { IfOk result (λ h. length h.vars ≡ length federation.now.federates) }
 {
-    let mut made = Vec::new(alloc);
     let mut lines = Vec::new(alloc);
-    let mut desks = open_all(alloc, federation, &mut made)?;
-    run_all(federation, &mut desks, &mut made, &mut lines)?;
-    let vars = vars_of(alloc, &desks)?;
+    let vars = observe(alloc, federation, &mut lines)?;
     Ok(History {
         lines: Items::from_vec(lines),
         vars,

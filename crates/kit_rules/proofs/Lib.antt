@@ -12,3 +12,4 @@ pub mod Masks
 pub mod ReceiverMasks
 pub mod TakenBack
 pub mod Timely
+pub mod FirstFaults

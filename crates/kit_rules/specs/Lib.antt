@@ -11,3 +11,4 @@ pub mod Need
 pub mod Fits
 pub mod Text
 pub mod Laws
+pub mod Faults

@@ -3,6 +3,7 @@
 
 mod act;
 mod delivery;
+mod faults;
 mod fed_state;
 mod federation;
 mod laws;
@@ -16,6 +17,9 @@ mod table;
 mod tests;
 
 pub use delivery::{is_member, receivers, transported};
+pub use faults::{
+    ActionFault, FederateFault, FederationFault, GroupFault, NameFault, RuleFault, first_fault,
+};
 pub use fed_state::FedState;
 pub use federation::Federation;
 pub use laws::{

@@ -32,13 +32,13 @@ pub const MOST_CONDS: usize = 8;
 /// The most actions of a rule.
 pub const MOST_ACTIONS: usize = 16;
 
-fn is_step(step: u64) -> bool
+pub(crate) fn is_step(step: u64) -> bool
     ensures { IsTrue result ↔ IsStep step }
 {
     1 <= step && step <= MOST_TIME
 }
 
-fn is_wish(wish: Wish) -> bool
+pub(crate) fn is_wish(wish: Wish) -> bool
     ensures { IsTrue result ↔ IsWish wish }
 {
     match wish {
@@ -47,7 +47,7 @@ fn is_wish(wish: Wish) -> bool
     }
 }
 
-fn is_operand(vars: usize, operand: Operand) -> bool
+pub(crate) fn is_operand(vars: usize, operand: Operand) -> bool
     ensures { IsTrue result ↔ IsOperand vars operand }
 {
     match operand {
@@ -56,7 +56,7 @@ fn is_operand(vars: usize, operand: Operand) -> bool
     }
 }
 
-fn is_trigger(groups: usize, on: Trigger) -> bool
+pub(crate) fn is_trigger(groups: usize, on: Trigger) -> bool
     ensures { IsTrue result ↔ IsTrigger groups on }
 {
     match on {
@@ -65,13 +65,13 @@ fn is_trigger(groups: usize, on: Trigger) -> bool
     }
 }
 
-fn is_cond(vars: usize, cond: Cond) -> bool
+pub(crate) fn is_cond(vars: usize, cond: Cond) -> bool
     ensures { IsTrue result ↔ IsCond vars cond }
 {
     is_operand(vars, cond.left) && is_operand(vars, cond.right)
 }
 
-fn is_kept(vars: usize, keep: Option<u8>) -> bool
+pub(crate) fn is_kept(vars: usize, keep: Option<u8>) -> bool
     ensures { IsTrue result ↔ IfSome keep (λ v. v < vars) }
 {
     match keep {
@@ -80,7 +80,7 @@ fn is_kept(vars: usize, keep: Option<u8>) -> bool
     }
 }
 
-fn is_delay(lookahead: Option<u32>, delay: u32) -> bool
+pub(crate) fn is_delay(lookahead: Option<u32>, delay: u32) -> bool
     ensures { IsTrue result ↔ IsSomeAnd lookahead (λ l. l ≤ delay) }
 {
     match lookahead {
@@ -89,7 +89,7 @@ fn is_delay(lookahead: Option<u32>, delay: u32) -> bool
     }
 }
 
-fn is_action(groups: usize, vars: usize, lookahead: Option<u32>, action: Action) -> bool
+pub(crate) fn is_action(groups: usize, vars: usize, lookahead: Option<u32>, action: Action) -> bool
     ensures { IsTrue result ↔ IsAction groups vars lookahead action }
 {
     match action {
@@ -169,7 +169,7 @@ impl Named for Federate {
     }
 }
 
-fn is_fresh<T: Named>(name: &Name, items: &[T]) -> bool
+pub(crate) fn is_fresh<T: Named>(name: &Name, items: &[T]) -> bool
     ensures { IsTrue result ↔ All (λ b. T.name_of b ≢ name.now) items.now }
 {
     items.iter().all(|b| !b.name().is_same(name))
@@ -204,7 +204,7 @@ fn are_rules(groups: usize, federate: &Federate) -> bool
         .all(|r| is_rule(groups, vars, federate.lookahead, r))
 }
 
-fn is_lookahead(lookahead: Option<u32>) -> bool
+pub(crate) fn is_lookahead(lookahead: Option<u32>) -> bool
     ensures { IsTrue result ↔ IfSome lookahead IsStep }
 {
     match lookahead {
@@ -240,7 +240,7 @@ fn are_groups(federates: usize, groups: &[Group]) -> bool
         && names_differ(groups)
 }
 
-fn is_count(n: usize) -> bool
+pub(crate) fn is_count(n: usize) -> bool
     ensures { IsTrue result ↔ ((1 ≤ n) × (n ≤ most_federates)) }
 {
     1 <= n && n <= MOST_FEDERATES
