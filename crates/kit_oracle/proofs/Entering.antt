@@ -52,7 +52,7 @@ front_is d (x ∷ xs) u =
     ]
 
 -- a filter of what passes leaves all
-all_left : (t : Message → Bool) (xs : List Message) → AllByRecursion (λ y. t y ≡ false) xs → filter (λ x. not (t x)) xs ≡ xs
+pub all_left : (t : Message → Bool) (xs : List Message) → AllByRecursion (λ y. t y ≡ false) xs → filter (λ x. not (t x)) xs ≡ xs
 all_left t [] h = refl
 all_left t (x ∷ xs) h = rw h.0 (ap (λ ys. x ∷ ys) (all_left t xs h.1))
 

@@ -18,7 +18,7 @@ use Rattle.kit_oracle.specs.Pending.{compare_keys, key_of, queue_with, front_unt
 use Rattle.kit_oracle.proofs.Removing.{remove_is_filter}
 
 -- a message has the key with which its own compares equal
-key_tied : (k : Key) (x : Message) → has_key k.time k.sender k.number x ≡ is_eq (compare_keys k (key_of x))
+pub key_tied : (k : Key) (x : Message) → has_key k.time k.sender k.number x ≡ is_eq (compare_keys k (key_of x))
 key_tied k x =
     both_tied (nat_eq k.time x.time) (nat_eq k.sender x.sender && nat_eq k.number x.number) (nat_cmp k.time x.time) (ordering_then (nat_cmp k.sender x.sender) (nat_cmp k.number x.number))
     (unsigned_ties k.time x.time)
@@ -82,11 +82,11 @@ filter_values test q (e ∷ es) f h =
     by_test false r = ap (λ xs. e.1 ∷ xs) r
 
 -- the order of keys is total
-keys_total : IsTotalOrder compare_keys
+pub keys_total : IsTotalOrder compare_keys
 keys_total = then_total (on_total (λ (k : Key). k.time) nat_cmp_total) (then_total (on_total (λ (k : Key). k.sender) nat_cmp_total) (on_total (λ (k : Key). k.number) nat_cmp_total))
 
 -- an ordering that tests as equal is it
-is_equal : (o : Ordering) → is_eq o ≡ true → o ≡ Equal
+pub is_equal : (o : Ordering) → is_eq o ≡ true → o ≡ Equal
 is_equal Less h = absurd (cc)
 is_equal Equal h = refl
 is_equal Greater h = absurd (cc)

@@ -13,3 +13,5 @@ mod Rounds
 mod Freshness
 mod Progress
 mod Outstanding
+mod Rows
+mod Split

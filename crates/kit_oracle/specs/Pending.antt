@@ -1,9 +1,9 @@
 -- A federate's undelivered messages, in the order of their keys.
-use Rattle.std.specs.Prelude.{◌≡◌, ℕ, nat_le, ◌==◌, Bool, not, ◌&&◌, if◌then◌else◌, List, [], ◌∷◌, filter, Option, Some, None}
+use Rattle.std.specs.Prelude.{◌≡◌, ◌<◌, ◌≤◌, true, false, length, slice_index_or, ℕ, nat_le, ◌==◌, Bool, not, ◌&&◌, if◌then◌else◌, List, [], ◌∷◌, filter, Option, Some, None}
 use Rattle.std.specs.List.{AllByRecursion}
 use Rattle.std.specs.List.Sorted.{IsStrictlySortedBy}
 use Rattle.std.specs.Map.{keys_of}
-use Rattle.std.specs.Ordering.{nat_cmp, ordering_then, match_ordering}
+use Rattle.std.specs.Ordering.{nat_cmp, is_lt, ordering_then, match_ordering}
 use Rattle.std.specs.declared.cmp.Ordering.{Ordering}
 use Rattle.kit_base.specs.declared.message.Message.{Message}
 use Rattle.kit_base.specs.Order.{key_cmp}
@@ -57,3 +57,14 @@ AreKeyed es = AllByRecursion (λ (e : Key × Message). e.0 ≡ key_of e.1) es
 pub record IsByKey (es : List (Key × Message)) : Type 0 where
   pub keyed : AreKeyed es
   pub ordered : IsStrictlySortedBy compare_keys (keys_of es)
+
+-- a key's place in a row is between the messages that come before it and the others
+pub record IsPlace (k : Key) (xs : List Message) (i : ℕ) : Type 0 where
+  pub within : i ≤ length xs
+  pub before : (j : ℕ) (d : Message) → j < i → is_lt (compare_keys (key_of (slice_index_or xs j d)) k) ≡ true
+  pub behind : (d : Message) → i < length xs → is_lt (compare_keys (key_of (slice_index_or xs i d)) k) ≡ false
+
+-- whether the message at a place has this key
+pub record IsKeyAt (k : Key) (xs : List Message) (i : ℕ) (found : Bool) : Type 0 where
+  pub inside : found ≡ true → i < length xs
+  pub there : (d : Message) → i < length xs → has_key k.time k.sender k.number (slice_index_or xs i d) ≡ found

@@ -1,6 +1,8 @@
 ghost use Rattle.std.specs.Prelude.{◌≡◌, ◌≤◌, length, None};
+ghost use Rattle.kit_rules.specs.Delivery.{request_due};
 ghost use Rattle.kit_rules.specs.Simulation.{least_pair, sooner_pair};
 ghost use Rattle.kit_oracle.specs.Desks.{waiting_at};
+ghost use Rattle.kit_oracle.specs.Pending.{first_time};
 
 use crate::pending::PendingMessages;
 use kit_rules::{FedState, Request};
@@ -13,6 +15,16 @@ pub(crate) struct Desk {
     pub(crate) request: Request,
     pub(crate) state: FedState,
     pub(crate) queue: PendingMessages,
+}
+
+/// When a request is due. The messages are looked at only where it asks for them.
+fn due(request: Request, queue: &PendingMessages) -> u64
+    ensures { result ≡ request_due request (first_time queue.now) }
+{
+    match request {
+        Request::Tar(time) => time,
+        Request::Ner(_) => request.due(queue.first_time()),
+    }
 }
 
 fn sooner_of(best: Option<(u64, u8)>, pair: (u64, u8)) -> (u64, u8)
@@ -38,7 +50,7 @@ pub(crate) fn next_of(end: u64, desks: &[Desk]) -> Option<(u64, u8)>
     let mut best = None;
     for (i, desk) in desks.iter().enumerate() {
         if desk.now < end {
-            let time = desk.request.due(desk.queue.first_time());
+            let time = due(desk.request, &desk.queue);
             best = Some(sooner_of(best, (time, i as u8)));
         }
     }

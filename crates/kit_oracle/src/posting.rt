@@ -8,14 +8,14 @@ ghost use Rattle.kit_oracle.specs.Desks.{desks_after_messages};
 use crate::desk::Desk;
 use crate::pending::{Key, PendingMessages};
 use kit_base::{Kind, Message};
-use kit_rules::{Federation, is_member, receivers, transported};
+use kit_rules::{Federation, is_member, receivers};
 use std::alloc::AllocError;
 
 /// Those that a message reaches, as a mask.
 fn reach(federation: &Federation, message: &Message) -> u16
     ensures { result ≡ receiver_mask federation.now message.now }
 {
-    if transported(federation, message) {
+    if message.time <= federation.end() {
         receivers(federation, message.sender, message.group)
     } else {
         0

@@ -1,3 +1,4 @@
+mod Joined
 pub mod InMerge
 pub mod MergeStates
 pub mod Soonest

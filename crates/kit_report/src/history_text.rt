@@ -1,11 +1,14 @@
 //! The text of a history: a line for each delivery and each grant, and then the closing lines.
 
-ghost use Rattle.std.specs.Prelude.{◌≡◌, ◌<◌, ◌≤◌, ◌++◌, length, codes, decimal, IfOk, OnOk, All};
+ghost use Rattle.std.specs.Prelude.{◌≡◌, ◌<◌, ◌≤◌, ◌+◌, ◌∷◌, ◌++◌, length, drop, codes, decimal};
+ghost use Rattle.std.specs.Prelude.{IfOk, OnOk, All};
 ghost use Rattle.std.specs.List.{flat_map};
 ghost use Rattle.kit_rules.specs.Fits.{LineFits};
-ghost use Rattle.kit_rules.specs.Text.{origin_text, value_text, line_text, vars_text, closing_text};
+ghost use Rattle.kit_rules.specs.Parts.{federate_at, group_at};
+ghost use Rattle.kit_rules.specs.Text.{value_text, line_text, vars_text, closing_text};
 ghost use Rattle.kit_rules.specs.Text.{closings_text, history_text};
 
+use itoa::write_digits;
 use kit_base::{History, Line, Message, push_decimal};
 use kit_rules::{Federate, Federation, Var};
 use std::alloc::{AllocError, Global};
@@ -13,6 +16,36 @@ use std::alloc::{AllocError, Global};
 /// The room that is made at once for a line, in bytes; the text grows past it where lines are
 /// longer.
 const LINE_ROOM: usize = 48;
+
+/// The room in which numbers are written from their last digit to their first, in bytes.
+const NUMBERS_ROOM: usize = 80;
+
+/// Writes a time and a space.
+fn push_time(out: &mut Vec<u8>, time: u64) -> Result<(), AllocError>
+    ensures { OnOk result (out.new.items ≡ out.old.items ++ decimal time ++ codes " ") }
+{
+    let mut room = [0; NUMBERS_ROOM];
+    let end = put_byte(&mut room, NUMBERS_ROOM, b' ');
+    let start = put_number(&mut room, end, time);
+    out.extend_from_slice(&room[start..])
+}
+
+/// Writes a time, a federate's name, and what it got.
+fn push_front(
+    out: &mut Vec<u8>,
+    federation: &Federation,
+    time: u64,
+    federate: u8,
+    got: &[u8],
+) -> Result<(), AllocError>
+    requires { federate < length federation.now.federates }
+    ensures { OnOk result (out.new.items ≡ out.old.items
+        ++ decimal time ++ codes " " ++ (federate_at federation.now federate).name ++ got.now) }
+{
+    push_time(out, time)?;
+    out.extend_from_slice(federation.federate(federate).name.bytes())?;
+    out.extend_from_slice(got)
+}
 
 fn push_delivery(
     out: &mut Vec<u8>,
@@ -25,14 +58,12 @@ fn push_delivery(
     ensures { OnOk result (out.new.items ≡
         out.old.items ++ line_text federation.now (Line.Deliver granted federate message.now)) }
 {
-    push_decimal(out, granted)?;
-    out.push(b' ')?;
-    out.extend_from_slice(federation.federate(federate).name.bytes())?;
-    out.extend_from_slice(b" got ")?;
+    push_front(out, federation, granted, federate, b" got ")?;
     push_origin(out, federation, message)?;
-    push_value(out, message)
+    push_numbers(out, message)
 }
 
+/// Writes the group and the sender of a message.
 fn push_origin(
     out: &mut Vec<u8>,
     federation: &Federation,
@@ -40,25 +71,66 @@ fn push_origin(
 ) -> Result<(), AllocError>
     requires sender { message.now.sender < length federation.now.federates }
     requires group { message.now.group < length federation.now.groups }
-    ensures { OnOk result (out.new.items ≡
-        out.old.items ++ origin_text federation.now message.now) }
+    ensures { OnOk result (out.new.items ≡ out.old.items
+        ++ (group_at federation.now message.now.group).name ++ codes " "
+        ++ (federate_at federation.now message.now.sender).name) }
 {
     out.extend_from_slice(federation.group(message.group).name.bytes())?;
     out.push(b' ')?;
-    out.extend_from_slice(federation.federate(message.sender).name.bytes())?;
-    out.push(b'#')?;
-    push_decimal(out, message.number as u64)
+    out.extend_from_slice(federation.federate(message.sender).name.bytes())
 }
 
-fn push_value(out: &mut Vec<u8>, message: &Message) -> Result<(), AllocError>
-    ensures { OnOk result (out.new.items ≡ out.old.items ++ value_text message.now) }
+/// Writes the number of a message, its time and its value, and ends the line.
+fn push_numbers(out: &mut Vec<u8>, message: &Message) -> Result<(), AllocError>
+    ensures { OnOk result (out.new.items ≡
+        out.old.items ++ codes "#" ++ decimal message.now.number ++ value_text message.now) }
 {
-    out.extend_from_slice(b" @")?;
-    push_decimal(out, message.time)?;
-    out.extend_from_slice(b" = ")?;
-    push_decimal(out, message.value as u64)?;
-    out.push(b'\n')?;
-    Ok(())
+    let mut room = [0; NUMBERS_ROOM];
+    let start = write_numbers(&mut room, message);
+    out.extend_from_slice(&room[start..])
+}
+
+/// Writes them so that they end with the room, and gives the place at which they start.
+fn write_numbers(room: &mut [u8], message: &Message) -> usize
+    requires { length room.old ≡ 80 }
+    ensures within { result ≤ 80 }
+    ensures written { drop result room.new ≡
+        codes "#" ++ decimal message.now.number ++ value_text message.now }
+{
+    let end = put_byte(room, NUMBERS_ROOM, b'\n');
+    let value = put_number(room, end, message.value as u64);
+    let sign = put_byte(room, value, b' ');
+    let sign = put_byte(room, sign, b'=');
+    let sign = put_byte(room, sign, b' ');
+    let time = put_number(room, sign, message.time);
+    let sign = put_byte(room, time, b'@');
+    let sign = put_byte(room, sign, b' ');
+    let number = put_number(room, sign, message.number as u64);
+    put_byte(room, number, b'#')
+}
+
+/// Puts the digits of a number before a place, and gives the place of the first.
+fn put_number(room: &mut [u8], end: usize, number: u64) -> usize
+    requires low { 20 ≤ end }
+    requires high { end ≤ length room.old }
+    ensures most { end ≤ result + 20 }
+    ensures within { result ≤ end }
+    ensures written { drop result room.new ≡ decimal number ++ drop end room.old }
+    ensures len { length room.new ≡ length room.old }
+{
+    write_digits(number, room, end)
+}
+
+/// Puts a byte before a place, and gives its own.
+fn put_byte(room: &mut [u8], end: usize, byte: u8) -> usize
+    requires low { 1 ≤ end }
+    requires high { end ≤ length room.old }
+    ensures start { result + 1 ≡ end }
+    ensures written { drop result room.new ≡ byte ∷ drop end room.old }
+    ensures len { length room.new ≡ length room.old }
+{
+    room[end - 1] = byte;
+    end - 1
 }
 
 fn push_grant(
@@ -71,10 +143,7 @@ fn push_grant(
     ensures { OnOk result (out.new.items ≡
         out.old.items ++ line_text federation.now (Line.Grant time federate)) }
 {
-    push_decimal(out, time)?;
-    out.push(b' ')?;
-    out.extend_from_slice(federation.federate(federate).name.bytes())?;
-    out.extend_from_slice(b" grant\n")
+    push_front(out, federation, time, federate, b" grant\n")
 }
 
 fn push_line(out: &mut Vec<u8>, federation: &Federation, line: &Line) -> Result<(), AllocError>

@@ -1,8 +1,14 @@
-use Rattle.std.proofs.Common.{◌∙◌, ap, sym}
-use Rattle.kit_oracle.specs.Pending.{front_until}
-use Rattle.kit_oracle.proofs.Keeping.{none_at_front}
+use Rattle.std.proofs.Common.{◌≡◌, [], arith}
+use Rattle.std.specs.BTreeMap.{values}
+use Rattle.std.proofs.lemmas.Grind.{common_steps}
+use Rattle.kit_oracle.proofs.Split.{popped, popped_far}
 use Rattle.kit_oracle.proofs.pending.PendingMessages.pop_due.Goals as goal
 
-pub returns-in_default-clause-none : goal.returns-in_default-clause-none
-returns-in_default-clause-none c =
-    ap (front_until c.args.by) (sym c.self.view_is) ∙ none_at_front c.args.by c.self.inside.map.entries c.in-Some.field-0-0.now c.in-Some.message.now c.in-Some.ensures.first c.if-message-by.false
+pub invariant_of-self : goal.invariant_of-self
+invariant_of-self c =
+    (c.self.invariant.0, popped c.pop_front.result c.self.inside.near.items c.pop_front.new.self.items (values c.self.inside.far) c.pop_front.ensures.items c.self.invariant.1)
+
+pub invariant_of-self-in-None : goal.invariant_of-self-in-None
+invariant_of-self-in-None c =
+    let empty : c.self.inside.near.items ≡ [] = grind (arith, common_steps) in
+    (c.pop_far.ensures.by_key, popped_far c.pop_far.result c.self.inside.near.items (values c.self.inside.far) (values c.pop_far.new.far) empty c.pop_far.ensures.items c.self.invariant.1)
