@@ -28,7 +28,8 @@ pub use laws::{
 };
 pub use limits::{
     MOST_ACTIONS, MOST_BUFFERS, MOST_CONDS, MOST_FEDERATES, MOST_GROUPS, MOST_RULES, MOST_TIME,
-    MOST_VARS, Named, obeys,
+    MOST_VARS, Named, are_vars, is_action, is_cond, is_count, is_lookahead, is_step, is_trigger,
+    is_wish, names_differ, obeys,
 };
 pub use name::{MOST_NAME_BYTES, Name, is_name};
 pub use running::apply;

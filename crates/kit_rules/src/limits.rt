@@ -32,13 +32,15 @@ pub const MOST_CONDS: usize = 8;
 /// The most actions of a rule.
 pub const MOST_ACTIONS: usize = 16;
 
-pub(crate) fn is_step(step: u64) -> bool
+/// Whether a step, a lookahead or an end time is from 1 to 100,000.
+pub fn is_step(step: u64) -> bool
     ensures { IsTrue result ↔ IsStep step }
 {
     1 <= step && step <= MOST_TIME
 }
 
-pub(crate) fn is_wish(wish: Wish) -> bool
+/// Whether a request's step is within its limits.
+pub fn is_wish(wish: Wish) -> bool
     ensures { IsTrue result ↔ IsWish wish }
 {
     match wish {
@@ -56,7 +58,8 @@ pub(crate) fn is_operand(vars: usize, operand: Operand) -> bool
     }
 }
 
-pub(crate) fn is_trigger(groups: usize, on: Trigger) -> bool
+/// Whether a trigger names a group that is there.
+pub fn is_trigger(groups: usize, on: Trigger) -> bool
     ensures { IsTrue result ↔ IsTrigger groups on }
 {
     match on {
@@ -65,7 +68,8 @@ pub(crate) fn is_trigger(groups: usize, on: Trigger) -> bool
     }
 }
 
-pub(crate) fn is_cond(vars: usize, cond: Cond) -> bool
+/// Whether a condition reads variables that are there.
+pub fn is_cond(vars: usize, cond: Cond) -> bool
     ensures { IsTrue result ↔ IsCond vars cond }
 {
     is_operand(vars, cond.left) && is_operand(vars, cond.right)
@@ -89,7 +93,9 @@ pub(crate) fn is_delay(lookahead: Option<u32>, delay: u32) -> bool
     }
 }
 
-pub(crate) fn is_action(groups: usize, vars: usize, lookahead: Option<u32>, action: Action) -> bool
+/// Whether an action is one of a federate with so many variables and this lookahead, beside so many
+/// groups.
+pub fn is_action(groups: usize, vars: usize, lookahead: Option<u32>, action: Action) -> bool
     ensures { IsTrue result ↔ IsAction groups vars lookahead action }
 {
     match action {
@@ -175,7 +181,8 @@ pub(crate) fn is_fresh<T: Named>(name: &Name, items: &[T]) -> bool
     items.iter().all(|b| !b.name().is_same(name))
 }
 
-fn names_differ<T: Named>(items: &[T]) -> bool
+/// Whether no name of a list stands twice.
+pub fn names_differ<T: Named>(items: &[T]) -> bool
     ensures { IsTrue result ↔ AllPairs (λ a b. T.name_of a ≢ T.name_of b) items.now }
 {
     for (i, a) in items.iter().enumerate() {
@@ -186,7 +193,8 @@ fn names_differ<T: Named>(items: &[T]) -> bool
     true
 }
 
-fn are_vars(vars: &[Var]) -> bool
+/// Whether these are variables of a federate: at most 8, whose names are names and differ.
+pub fn are_vars(vars: &[Var]) -> bool
     ensures { IsTrue result ↔ AreVars vars.now }
 {
     vars.len() <= MOST_VARS && vars.iter().all(|v| is_name(v.name.bytes())) && names_differ(vars)
@@ -204,7 +212,8 @@ fn are_rules(groups: usize, federate: &Federate) -> bool
         .all(|r| is_rule(groups, vars, federate.lookahead, r))
 }
 
-pub(crate) fn is_lookahead(lookahead: Option<u32>) -> bool
+/// Whether a lookahead, where there is one, is from 1 to 100,000.
+pub fn is_lookahead(lookahead: Option<u32>) -> bool
     ensures { IsTrue result ↔ IfSome lookahead IsStep }
 {
     match lookahead {
@@ -240,7 +249,8 @@ fn are_groups(federates: usize, groups: &[Group]) -> bool
         && names_differ(groups)
 }
 
-pub(crate) fn is_count(n: usize) -> bool
+/// Whether a federation has so many federates: 1 to 16.
+pub fn is_count(n: usize) -> bool
     ensures { IsTrue result ↔ ((1 ≤ n) × (n ≤ most_federates)) }
 {
     1 <= n && n <= MOST_FEDERATES
