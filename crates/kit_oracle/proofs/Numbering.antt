@@ -1,9 +1,8 @@
 -- Numbers in a world: each message is among its sender's own sends, and its number is below the sender's next.
-use Rattle.std.proofs.Common.{◌≡◌, ◌≢◌, ℕ, inl, inr, ◌+◌, ◌<◌, ◌≤◌, Bool, List, [], ◌∷◌, ◌++◌, length, drop, get_or, set, filter, nat_eq, arith, refl, sym, subst, ap, ◌∙◌, length-set, length-append}
+use Rattle.std.proofs.Common.{◌≡◌, ℕ, inl, inr, ◌+◌, ◌<◌, ◌≤◌, List, [], ◌∷◌, length, drop, get_or, set, filter, arith, refl, sym, subst, ap, length-set, length-append}
 use Rattle.std.specs.List.{AllByRecursion}
-use Rattle.std.proofs.lemmas.Bool.{cases_eq, ne_eqb, eq-eqb}
-use Rattle.std.proofs.lemmas.List.{get_or-set_other, get_or-set_same, append-nil}
-use Rattle.std.proofs.lemmas.List.Elements.{filter-append}
+use Rattle.std.proofs.lemmas.Bool.{cases_eq}
+use Rattle.std.proofs.lemmas.List.{get_or-set_other, get_or-set_same}
 use Rattle.kit_base.specs.declared.message.Message.{Message}
 use Rattle.kit_base.proofs.Lists.{all-append, all_filter, each_weaker}
 use Rattle.kit_rules.specs.Parts.{Parts}

@@ -1,11 +1,9 @@
 -- The start's numbers, and what they say of a new message: nothing has it yet, and a Retraction finds its Event by time, sender and number.
-use Rattle.std.proofs.Common.{Option, Some, None, ◌≡◌, ℕ, zero, suc, inl, inr, ◌+◌, ◌<◌, ◌≤◌, Bool, true, false, cond, not, ◌&&◌, ◌||◌, List, [], ◌∷◌, ◌++◌, length, map, drop, filter, nat_eq, arith, refl, sym, subst, ap, ◌∙◌}
-use Rattle.std.specs.List.{AllByRecursion, range_with_len, flat_map, list_any}
-use Rattle.std.proofs.lemmas.Bool.{cases_eq, ne_eqb, eq-eqb, eqb-true}
+use Rattle.std.proofs.Common.{Option, Some, None, ◌≡◌, ℕ, zero, suc, inl, inr, ◌+◌, ◌<◌, ◌≤◌, Bool, true, false, cond, not, ◌&&◌, ◌||◌, List, [], ◌∷◌, ◌++◌, length, drop, filter, nat_eq, arith, refl, sym, subst, ap, ◌∙◌}
+use Rattle.std.specs.List.{AllByRecursion, list_any}
+use Rattle.std.proofs.lemmas.Bool.{ne_eqb, eq-eqb, eqb-true}
 use Rattle.std.proofs.lemmas.Bool.Decides.{eqb_tells}
-use Rattle.std.proofs.lemmas.List.{append-nil}
-use Rattle.std.proofs.lemmas.List.Elements.{filter-append}
-use Rattle.std.proofs.lemmas.List.FromFn.{get_or-map-range_with_len, length-map-range_with_len}
+use Rattle.std.proofs.lemmas.List.FromFn.{length-map-range_with_len}
 use Rattle.kit_base.specs.declared.message.Message.{Message}
 use Rattle.kit_base.proofs.Lists.{all-append, all_drop, each_weaker}
 use Rattle.kit_rules.specs.Parts.{Parts, federate_at}
@@ -16,7 +14,7 @@ use Rattle.kit_rules.specs.Step.{is_event, opening_state}
 use Rattle.kit_rules.proofs.Growth.{AreNumbered}
 use Rattle.kit_rules.proofs.Backs.{Aimed, Aims, aimed_by_step, one_time}
 use Rattle.kit_rules.specs.Delivery.{is_same, retracts}
-use Rattle.kit_rules.specs.Simulation.{Seat, World, world_at_start, seat_at_start, seat_at, nobody_seated, seat_after_pair, world_after_grant, world_after_pair, next_grant, next_world, after_grants}
+use Rattle.kit_rules.specs.Simulation.{Seat, World, world_at_start, seat_at_start, seat_at, seat_after_pair, world_after_grant, world_after_pair, next_grant, next_world, after_grants}
 use Rattle.kit_oracle.specs.Pending.{has_key, without_key}
 use Rattle.kit_laws.proofs.Worlds.{grows_by_start}
 use Rattle.kit_oracle.proofs.Fronts.{filter_same}

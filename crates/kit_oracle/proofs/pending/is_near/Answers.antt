@@ -1,6 +1,4 @@
-use Rattle.std.proofs.Common.{◌≡◌, true, ◌∙◌, sym, arith}
-use Rattle.std.specs.Ordering.{is_lt}
-use Rattle.std.specs.declared.cmp.Ordering.TheVariants.{Less}
+use Rattle.std.proofs.Common.{◌∙◌, sym}
 use Rattle.kit_oracle.specs.Pending.{compare_keys}
 use Rattle.kit_oracle.proofs.Rows.{is_less}
 use Rattle.kit_oracle.proofs.Split.{before_tree, before_key}

@@ -1,5 +1,4 @@
 use Rattle.std.proofs.Common.{sym, ◌∙◌, arith}
-use Rattle.kit_base.specs.declared.message.Message.{Message}
 use Rattle.kit_rules.specs.Step.{no_message}
 use Rattle.kit_oracle.proofs.Rows.{removed, absent}
 use Rattle.kit_oracle.proofs.pending.take_out.Goals as goal
