@@ -1,0 +1,11 @@
+pub mod Masks
+pub mod Receivers
+pub mod Steps
+pub mod Same
+pub mod Told
+pub mod Joining
+pub mod Fitness
+pub mod Growing
+pub mod Names
+pub mod Crowds
+pub mod Counting

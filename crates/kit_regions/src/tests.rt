@@ -1,0 +1,247 @@
+use super::*;
+use kit_base::Items;
+use kit_rules::{Action, Federate, Federation, Name, Operand, Rule, Trigger, Wish, receivers};
+use std::alloc::{AllocError, Global};
+use std::process::Abort;
+use std::test::Fail;
+
+fn range(from: u32, to: u32) -> Range {
+    Range { from, to }
+}
+
+fn update(alloc: Global, name: &str, group: u8, range: Range) -> Result<Update, AllocError> {
+    Ok(Update {
+        name: Name::of(alloc, name.as_bytes())?,
+        group,
+        range,
+    })
+}
+
+fn subscription(group: u8, federate: u8, range: Range) -> Subscription {
+    Subscription {
+        group,
+        federate,
+        range,
+    }
+}
+
+/// An Event of value 7 to an update.
+fn send(update: u8) -> Action {
+    Action::Send {
+        group: update,
+        delay: 1,
+        value: Operand::Num(7),
+        keep: None,
+    }
+}
+
+fn rule(alloc: Global, on: Trigger, actions: &[Action]) -> Result<Rule, AllocError> {
+    Ok(Rule {
+        on,
+        conds: Items::new(alloc),
+        actions: Items::from_vec(Vec::from_slice(alloc, actions)?),
+    })
+}
+
+/// A federate of lookahead 1 with as many rules, each on the same trigger.
+fn federate(alloc: Global, name: &str, on: Trigger, count: usize) -> Result<Federate, AllocError> {
+    let mut rules = Items::new(alloc);
+    for _ in 0..count {
+        rules.push(rule(alloc, on, &[])?)?;
+    }
+    Ok(Federate {
+        name: Name::of(alloc, name.as_bytes())?,
+        lookahead: Some(1),
+        advance: Wish::Tar(2),
+        vars: Items::new(alloc),
+        rules,
+    })
+}
+
+/// The parts of a plan, which a test changes.
+#[derive(Drop)]
+struct Parts {
+    groups: Items<Name>,
+    updates: Items<Update>,
+    subscriptions: Items<Subscription>,
+    federates: Items<Federate>,
+}
+
+impl Parts {
+    /// One group with two updates; federate `a` sends to both, `b` subscribes to the numbers below
+    /// 10 and `c` to those from 10 on, and both have as many rules on Got of the group.
+    fn near_and_wide(alloc: Global, rules: usize) -> Result<Parts, AllocError> {
+        let mut parts = Parts {
+            groups: Items::new(alloc),
+            updates: Items::new(alloc),
+            subscriptions: Items::new(alloc),
+            federates: Items::new(alloc),
+        };
+        parts.groups.push(Name::of(alloc, b"map")?)?;
+        parts.updates.push(update(alloc, "near", 0, range(5, 10))?)?;
+        parts.updates.push(update(alloc, "wide", 0, range(5, 11))?)?;
+        parts.subscriptions.push(subscription(0, 1, range(0, 10)))?;
+        parts.subscriptions.push(subscription(0, 2, range(10, 20)))?;
+        let mut sender = federate(alloc, "a", Trigger::Start, 0)?;
+        sender
+            .rules
+            .push(rule(alloc, Trigger::Start, &[send(0), send(1)])?)?;
+        parts.federates.push(sender)?;
+        for name in ["b", "c"] {
+            let on = Trigger::Got { group: 0 };
+            parts.federates.push(federate(alloc, name, on, rules)?)?;
+        }
+        Ok(parts)
+    }
+
+    fn are_plan(&self) -> bool {
+        is_plan(
+            2,
+            2,
+            self.groups.as_slice(),
+            self.updates.as_slice(),
+            self.subscriptions.as_slice(),
+            self.federates.as_slice(),
+        )
+    }
+
+    fn plan(self, rt: &impl Abort) -> Regioned {
+        assert!(rt; self.are_plan());
+        Regioned::new(
+            2,
+            2,
+            self.groups,
+            self.updates,
+            self.subscriptions,
+            self.federates,
+        )
+    }
+}
+
+#[test]
+fn ranges_that_only_touch_do_not_overlap(rt: HostRuntime) -> Result<(), Fail> {
+    assert!(rt; !overlap(range(0, 10), range(10, 20)));
+    assert!(rt; !overlap(range(10, 20), range(0, 10)));
+    assert!(rt; overlap(range(0, 11), range(10, 20)));
+    assert!(rt; overlap(range(12, 13), range(10, 20)));
+    assert!(rt; overlap(range(10, 20), range(12, 13)));
+    Ok(())
+}
+
+#[test]
+fn an_update_reaches_whoever_overlaps(rt: HostRuntime) -> Result<(), Fail> {
+    let alloc = rt.alloc();
+    let updates = [
+        update(alloc, "near", 0, range(5, 10))?,
+        update(alloc, "wide", 0, range(5, 11))?,
+        update(alloc, "elsewhere", 1, range(5, 11))?,
+    ];
+    let subscriptions = [
+        subscription(0, 1, range(0, 10)),
+        subscription(0, 2, range(10, 20)),
+    ];
+    let masks = match_all(alloc, &updates, &subscriptions)?;
+    assert_eq!(rt; masks.as_slice(), [2, 6, 0].as_slice());
+    Ok(())
+}
+
+#[test]
+fn a_plan_keeps_its_limits(rt: HostRuntime) -> Result<(), Fail> {
+    let alloc = rt.alloc();
+    assert!(rt; Parts::near_and_wide(alloc, 1)?.are_plan());
+    let mut same_name = Parts::near_and_wide(alloc, 1)?;
+    same_name
+        .updates
+        .push(update(alloc, "near", 0, range(0, 1))?)?;
+    assert!(rt; !same_name.are_plan());
+    let mut no_group = Parts::near_and_wide(alloc, 1)?;
+    no_group
+        .updates
+        .push(update(alloc, "far", 1, range(0, 1))?)?;
+    assert!(rt; !no_group.are_plan());
+    for (group, federate, range, wanted) in [
+        (0, 2, range(0, 1), true),
+        (1, 2, range(0, 1), false),
+        (0, 3, range(0, 1), false),
+        (0, 2, range(1, 1), false),
+    ] {
+        let mut parts = Parts::near_and_wide(alloc, 1)?;
+        parts
+            .subscriptions
+            .push(subscription(group, federate, range))?;
+        assert_eq!(rt; parts.are_plan(), wanted, "{group} {federate} {range:?}");
+    }
+    for (on, update, wanted) in [
+        (Trigger::Start, 1, true),
+        (Trigger::Start, 2, false),
+        (Trigger::Got { group: 0 }, 1, true),
+        (Trigger::Got { group: 1 }, 1, false),
+    ] {
+        let mut parts = Parts::near_and_wide(alloc, 1)?;
+        let mut one = federate(alloc, "d", Trigger::Start, 0)?;
+        one.rules.push(rule(alloc, on, &[send(update)])?)?;
+        parts.federates.push(one)?;
+        assert_eq!(rt; parts.are_plan(), wanted, "{on:?} {update}");
+    }
+    Ok(())
+}
+
+#[test]
+fn a_group_has_256_subscriptions(rt: HostRuntime) -> Result<(), Fail> {
+    for (count, wanted) in [(256, true), (257, false)] {
+        let mut parts = Parts::near_and_wide(rt.alloc(), 1)?;
+        while parts.subscriptions.len() < count {
+            let more = subscription(0, 1, range(0, 1));
+            parts.subscriptions.push(more)?;
+        }
+        assert_eq!(rt; parts.are_plan(), wanted, "{count}");
+    }
+    Ok(())
+}
+
+fn lowered(rt: &impl Abort, alloc: Global, rules: usize) -> Result<Federation, RegionEnd> {
+    lower(alloc, &Parts::near_and_wide(alloc, rules)?.plan(rt))
+}
+
+#[test]
+fn a_rule_on_got_becomes_one_for_each_update(rt: HostRuntime) -> Result<(), Fail> {
+    let Ok(federation) = lowered(&rt, rt.alloc(), 2) else {
+        assert!(rt; false, "not lowered");
+        return Ok(());
+    };
+    for (sender, update, members) in [(0, 0, 2), (0, 1, 6), (1, 1, 4), (2, 0, 2), (0, 2, 0)] {
+        assert_eq!(rt;
+            receivers(&federation, sender, update),
+            members,
+            "{sender} {update}"
+        );
+    }
+    let federates = federation.federates();
+    assert_eq!(rt; federates.len(), 3);
+    let rules = federates[1].rules.as_slice();
+    assert_eq!(rt; rules.len(), 4);
+    for (k, group) in [0, 1, 0, 1].iter().enumerate() {
+        assert_eq!(rt; rules[k].on, Trigger::Got { group: *group }, "{k}");
+    }
+    assert_eq!(rt; federates[0].rules.len(), 1);
+    Ok(())
+}
+
+#[test]
+fn the_first_federate_with_too_many_rules_is_named(rt: HostRuntime) -> Result<(), Fail> {
+    assert!(rt; lowered(&rt, rt.alloc(), 32).is_ok());
+    match lowered(&rt, rt.alloc(), 33) {
+        Err(end) => assert_eq!(rt; end, RegionEnd::TooManyRules { federate: 1 }),
+        Ok(_) => assert!(rt; false, "66 rules"),
+    }
+    Ok(())
+}
+
+#[test]
+fn each_update_has_a_line(rt: HostRuntime) -> Result<(), Fail> {
+    let plan = Parts::near_and_wide(rt.alloc(), 1)?.plan(&rt);
+    let text = region_text(rt.alloc(), &plan)?;
+    let wanted = b"region near map 5 10 b\nregion wide map 5 11 b c\n";
+    assert_eq!(rt; text.as_slice(), wanted.as_slice());
+    Ok(())
+}
