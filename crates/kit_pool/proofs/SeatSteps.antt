@@ -1,9 +1,11 @@
 -- A step of a federate's seat keeps the rule of its table.
-use Rattle.std.proofs.Common.{◌≡◌, ℕ, ◌+◌, ◌<◌, true, if◌then◌else◌, List, ◌∷◌, ◌++◌, length, refl, sym, ap, ◌∙◌, subst, arith, length-set}
-use Rattle.std.specs.Prelude.{slice_index, slice_set}
+use Rattle.std.proofs.Common.{◌≡◌, ◌==◌, ℕ, ◌+◌, ◌<◌, Bool, true, false, if◌then◌else◌, List, ◌∷◌, ◌++◌, length, refl, sym, ap, ◌∙◌, subst, arith, length-set}
+use Rattle.std.proofs.lemmas.Bool.Decides.{nat_tests}
+use Rattle.std.specs.Prelude.{MatchBool, slice_index, slice_set}
 use mathlib.Core.Option.{some}
 use lib.ListN.{get_elem?}
-use Rattle.atomic_table.specs.Table.{State, Me, keeps, Allows}
+use Rattle.atomic_table.specs.Table.{State, Me, Act, keeps, Allows, Valid, carried_after}
+use Rattle.atomic_table.proofs.Lists.{set_again}
 use Rattle.kit_ground.specs.declared.address.Address.{Address}
 use Rattle.kit_ground.specs.declared.place.Deed.{Deed}
 use Rattle.kit_ground.specs.declared.place.Place.{Place}
@@ -13,8 +15,8 @@ use Rattle.kit_ground.specs.Rules.{FloorHolds, Rule, WasFound}
 use Rattle.kit_ground.specs.Steps.{place_after, address_of, becomes}
 use Rattle.kit_ground.specs.Words.{RuledWords}
 use Rattle.kit_ground.proofs.WordSteps as words
-use Rattle.kit_pool.specs.Seating.{FindingIsTold, DeskIsOwned, HoldsOfOwnPlace, IsGuestBeside, Plans, TableHolds, StoreIsTold}
-use Rattle.kit_pool.proofs.Behind.{at_before, get_behind, set_before, set_behind}
+use Rattle.kit_pool.specs.Seating.{FindingIsTold, DeskIsOwned, HoldsOfOwnPlace, IsGuestBeside, Plans, TableHolds, StoreIsTold, ZeroIsTold}
+use Rattle.kit_pool.proofs.Behind.{at_before, get_behind, set_before, set_behind, set_same}
 use Rattle.kit_pool.proofs.Holding.{held_after}
 
 -- what the table's word i is, where that is the word of an address
@@ -135,6 +137,33 @@ module _ {V : Type 0} (rule : Rule V) (n b : ℕ) (front : List ℕ) where
   finds next slots id me p ps is inside i a place f deed plan = allowed next slots id me p ps is inside i a place f deed plan (λ x after. FindingIsTold rule next deed me x after)
       (λ x told. subst (HoldsOfOwnPlace (λ q qs. (place_after next (deed x) p ∷ ps ≡ place_after next (deed x) q ∷ qs) × (me.1 ≡ me.1) × WasFound rule q (address_of q.own (deed x)) x)) (sym is)
       (refl, refl, subst (λ (y : Address). WasFound rule p y x) (plan.address x) told))
+
+  -- a load that is the step where it finds 0, and no step where it finds another word
+  pub finds_zero : {S : Type 0} (next : Deed → Place V → V) (slots id : ℕ) (me : Me S Ps) (p : Place V) (ps : Ps) → me.0 ≡ p ∷ ps → p.own.number < n → (i : ℕ) (a : Address) → length front + i ≡ index_of n b a
+      → (f : ℕ → ℕ) (deed : ℕ → Deed) → Plans rule next p a f deed → f 0 ≡ 0
+      → Allows (λ (s : State S Ps). TableHolds rule n b front s.words s.views) slots id me i (λ x. x) (λ x after. ZeroIsTold rule next deed me x after)
+  finds_zero {S} next slots id me p ps is inside i a place f deed plan stays s r homes at small = by_test (slice_index s.words i == 0) refl
+    where
+      by_test : (t : Bool) → (slice_index s.words i == 0) ≡ t
+          → (w : Ps) × (act : Act S) × Valid s.homes me.1 act × TableHolds rule n b front (slice_set s.words i (slice_index s.words i)) (slice_set s.views id w) × ZeroIsTold rule next deed me (slice_index s.words i) (w, carried_after me.1 act)
+      by_test true e =
+          let x : ℕ = slice_index s.words i in
+          let zero : x ≡ 0 = grind (arith, nat_tests) in
+          let same : f x ≡ x = ap f zero ∙ (stays ∙ sym zero) in
+          let done = finds next slots id me p ps is inside i a place f deed plan s r homes at small in (
+            done.0,
+            done.1,
+            done.2,
+            subst (λ (y : ℕ). TableHolds rule n b front (slice_set s.words i y) (slice_set s.views id done.0)) same done.3,
+            subst (λ (t : Bool). MatchBool t (FindingIsTold rule next deed me x (done.0, carried_after me.1 done.1)) ((done.0, carried_after me.1 done.1) ≡ me)) (sym e) done.4,
+          )
+      by_test false e = (
+        me.0,
+        keeps,
+        tt,
+        subst (λ (y : List ℕ × List Ps). TableHolds rule n b front y.0 y.1) (λ t. (sym (set_same s.words i) t, sym (set_again s.views id me.0 at) t)) r,
+        subst (λ (t : Bool). MatchBool t (FindingIsTold rule next deed me (slice_index s.words i) me) (me ≡ me)) (sym e) refl,
+      )
 
   -- a store of v, whose deed is the same whatever stood there
   pub stores : {S : Type 0} (next : Deed → Place V → V) (slots id : ℕ) (me : Me S Ps) (p : Place V) (ps : Ps) → me.0 ≡ p ∷ ps → p.own.number < n → (i : ℕ) (a : Address) → length front + i ≡ index_of n b a

@@ -7,7 +7,7 @@ use Rattle.kit_ground.specs.declared.place.Deed.{Deed}
 use Rattle.kit_ground.specs.declared.place.Place.{Place}
 use Rattle.kit_ground.specs.Layout.{index_of, size_of}
 use Rattle.kit_ground.specs.Rules.{Rule, zero_memory, places_at_first, places_from}
-use Rattle.kit_pool.specs.Seating.{FindingIsTold, Plans, TableHolds, StoreIsTold, others_of, own_of}
+use Rattle.kit_pool.specs.Seating.{FindingIsTold, Plans, TableHolds, StoreIsTold, ZeroIsTold, others_of, own_of}
 use Rattle.kit_pool.specs.Watching.{GuestPlans, GuestsSee, LookIsTold}
 
 module _ {V : Type 0} (rule : Rule V) where
@@ -23,7 +23,12 @@ module _ {V : Type 0} (rule : Rule V) where
   StepsAreAllowed = (n b : ℕ) (front : List ℕ) (next : Deed → Place V → V) (slots id : ℕ) (me : Me (Unit {0}) (List (Place V))) (p : Place V) (ps : List (Place V)) → me.0 ≡ p ∷ ps → p.own.number < n → (i : ℕ) (a : Address) → IsAt n b front i a
       → (f : ℕ → ℕ) (deed : ℕ → Deed) → Plans rule next p a f deed → Allows (TableStateHolds n b front) slots id me i f (λ x after. FindingIsTold rule next deed me x after)
 
-  -- and so is a store
+  -- where a step leaves a word that is 0, a load that finds 0 is that step, and one that finds another word is no step
+  abbrev pub ZerosAreAllowed : Type 0
+  ZerosAreAllowed = (n b : ℕ) (front : List ℕ) (next : Deed → Place V → V) (slots id : ℕ) (me : Me (Unit {0}) (List (Place V))) (p : Place V) (ps : List (Place V)) → me.0 ≡ p ∷ ps → p.own.number < n → (i : ℕ) (a : Address) → IsAt n b front i a
+      → (f : ℕ → ℕ) (deed : ℕ → Deed) → Plans rule next p a f deed → f 0 ≡ 0 → Allows (TableStateHolds n b front) slots id me i (λ x. x) (λ x after. ZeroIsTold rule next deed me x after)
+
+  -- a store that is planned so is allowed too
   abbrev pub StoresAreAllowed : Type 0
   StoresAreAllowed = (n b : ℕ) (front : List ℕ) (next : Deed → Place V → V) (slots id : ℕ) (me : Me (Unit {0}) (List (Place V))) (p : Place V) (ps : List (Place V)) → me.0 ≡ p ∷ ps → p.own.number < n → (i : ℕ) (a : Address) → IsAt n b front i a
       → (v : ℕ) (deed : ℕ → Deed) → Plans rule next p a (λ _. v) (λ _. deed v) → Allows (TableStateHolds n b front) slots id me i (λ _. v) (λ _. StoreIsTold rule next deed me v)

@@ -1,6 +1,6 @@
 -- The rule of a table whose seats are those of federates and of guests, and what its steps tell. The view of a seat is the list of the places
 -- that it has: its own first, and then those of the seats that it took in.
-use Rattle.std.specs.Prelude.{◌≡◌, ℕ, List, [], ◌∷◌, ◌++◌, length, slice_index_or}
+use Rattle.std.specs.Prelude.{◌≡◌, ◌==◌, ℕ, MatchBool, List, [], ◌∷◌, ◌++◌, length, slice_index_or}
 use mathlib.Core.Option.{some}
 use lib.ListN.{get_elem?}
 use Rattle.atomic_table.specs.Table.{Me}
@@ -57,6 +57,10 @@ module _ {V : Type 0} where
   -- what a step tells: the seat's own place is changed by the deed, and there was a world with the word that was found
   abbrev pub FindingIsTold : {S : Type 0} → Rule V → (Deed → Place V → V) → (ℕ → Deed) → Me S (List (Place V)) → ℕ → Me S (List (Place V)) → Type 0
   FindingIsTold rule next deed me n after = HoldsOfOwnPlace (λ p ps. (after.0 ≡ place_after next (deed n) p ∷ ps) × (after.1 ≡ me.1) × WasFound rule p (address_of p.own (deed n)) n) me.0
+
+  -- what a load tells that is the step where it finds 0, and no step where it finds another word
+  abbrev pub ZeroIsTold : {S : Type 0} → Rule V → (Deed → Place V → V) → (ℕ → Deed) → Me S (List (Place V)) → ℕ → Me S (List (Place V)) → Type 0
+  ZeroIsTold rule next deed me n after = MatchBool (n == 0) (FindingIsTold rule next deed me n after) (after ≡ me)
 
   -- and what a store tells
   abbrev pub StoreIsTold : {S : Type 0} → Rule V → (Deed → Place V → V) → (ℕ → Deed) → Me S (List (Place V)) → ℕ → Me S (List (Place V)) → Type 0

@@ -8,7 +8,6 @@ use Rattle.kit_ground.specs.declared.place.Deed.{Deed}
 use Rattle.kit_ground.specs.declared.place.Deed.TheVariants.{Looked, SawStop}
 use Rattle.kit_ground.specs.declared.place.Place.{Place}
 use Rattle.kit_ground.specs.Guests.{GuestKeeps, WasSeen}
-use Rattle.kit_ground.specs.Memory.{Memory}
 use Rattle.kit_ground.specs.Rules.{Rule, own_at_first, places_at_first, zero_memory}
 use Rattle.kit_ground.specs.Steps.{Allowed, place_after, address_of}
 use Rattle.kit_pool.specs.Seating.{HoldsOfOwnPlace}

@@ -1,6 +1,7 @@
 //! Laws of a table with seats: each is the contract of a function that does nothing.
 
 ghost use Rattle.kit_pool.specs.Laws.{StepsAreAllowed, StoresAreAllowed, LooksAreAllowed};
+ghost use Rattle.kit_pool.specs.Laws.{ZerosAreAllowed};
 ghost use Rattle.kit_pool.specs.Laws.{SeatsAreCut, SeatsAreTakenIn, OpensSo};
 
 use kit_ground::Protocol;
@@ -11,6 +12,7 @@ use kit_ground::Protocol;
 /// rests on.
 pub fn seats_keep_the_rules<P: Protocol>()
     ensures steps { StepsAreAllowed P.rule }
+    ensures zeros { ZerosAreAllowed P.rule }
     ensures stores { StoresAreAllowed P.rule }
     ensures looks { LooksAreAllowed P.rule }
     ensures cut { SeatsAreCut P.rule }

@@ -76,6 +76,18 @@ impl<P: Protocol, E: Event<P::View>, D: Plan> Play<(), LinkedList<Place<P::View>
     ghost then = { λ s me n after. FindingIsTold P.rule E.next D.deed me n after };
 }
 
+/// A load that is the step where it finds 0, and no step where it finds another word.
+pub struct FindsZero<P, E, D> {
+    of: PhantomData<(P, E, D)>,
+}
+
+impl<P: Protocol, E: Event<P::View>, D: Plan> Play<(), LinkedList<Place<P::View>>>
+    for FindsZero<P, E, D> {
+    ghost use Rattle.kit_pool.specs.Seating.{ZeroIsTold};
+
+    ghost then = { λ s me n after. ZeroIsTold P.rule E.next D.deed me n after };
+}
+
 /// A guest's look, which tells the word that it found.
 pub struct Sees<P, E, D> {
     of: PhantomData<(P, E, D)>,

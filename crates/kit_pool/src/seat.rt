@@ -4,7 +4,7 @@ ghost use Rattle.std.specs.Int.Count.{ones};
 ghost use Rattle.kit_pool.specs.Seats.{IsOwn, IsWithin};
 
 use crate::guest::GuestSeat;
-use crate::rule::{Finds, Front, OwnFirst, Plan, SeatingTable, Stores};
+use crate::rule::{Finds, FindsZero, Front, OwnFirst, Plan, SeatingTable, Stores};
 use atomic_table::Seat;
 use kit_ground::{Address, Deed, Event, Place, Protocol};
 use std::collections::LinkedList;
@@ -30,7 +30,7 @@ pub struct TableSeat<P: Protocol> {
 
 impl<P: Protocol> TableSeat<P> {
     ghost use Rattle.std.specs.Prelude.{◌≡◌, ℕ, ◌+◌, ◌-◌, ◌<◌, ◌≤◌, ◌%◌, ◌^◌, [], ◌∷◌, ◌++◌};
-    ghost use Rattle.std.specs.Prelude.{bit_or, length};
+    ghost use Rattle.std.specs.Prelude.{bit_or, length, true, false};
     ghost use Rattle.kit_ground.specs.Layout.{index_of};
     ghost use Rattle.kit_ground.specs.Rules.{WasFound};
     ghost use Rattle.kit_ground.specs.Steps.{place_after};
@@ -87,8 +87,65 @@ impl<P: Protocol> TableSeat<P> {
         table.shared.load::<Finds<P, E, D>>(seat, at)
     }
 
-    /// Swaps a word for 0.
+    /// Swaps a word for 0, or finds by a load that it is 0. Whichever it is, it is one step: a load
+    /// that finds another word is none.
+    ///
+    /// A load leaves the word's cache line with those who read it, and a swap takes it from them.
     pub fn swap<F: Front, D: Plan, E: Event<P::View>>(
+        &mut self,
+        table: &SeatingTable<P, F>,
+        at: usize,
+        address: Address,
+        _about: Deed,
+    ) -> u64
+        requires seat { IsSeatOn table.now.shared self.old }
+        requires sized { IsSized (F.front self.old.federates) self.old.federates self.old.buffers
+            table.now.shared.table_id }
+        requires at { length (F.front self.old.federates) + at
+            ≡ index_of self.old.federates self.old.buffers address }
+        requires plan { Plans P.rule E.next (place_on P.first table.now.shared self.old) address
+            (λ _. 0) D.deed }
+        ensures same { IsSameTableSeat self.old self.new }
+        ensures place { desk_of self.new
+            ≡ place_after E.next (D.deed result)
+            (place_on P.first table.now.shared self.old) ∷ others_with self.old }
+        ensures told { WasFound P.rule (place_on P.first table.now.shared self.old) address result }
+    {
+        if self.find_zero::<F, D, E>(table, at, address, _about) {
+            return 0;
+        }
+        self.swap_word::<F, D, E>(table, at, address, _about)
+    }
+
+    /// Loads a word, and says whether it was 0: then the load was the step of a swap for 0.
+    fn find_zero<F: Front, D: Plan, E: Event<P::View>>(
+        &mut self,
+        table: &SeatingTable<P, F>,
+        at: usize,
+        address: Address,
+        _about: Deed,
+    ) -> bool
+        requires seat { IsSeatOn table.now.shared self.old }
+        requires sized { IsSized (F.front self.old.federates) self.old.federates self.old.buffers
+            table.now.shared.table_id }
+        requires at { length (F.front self.old.federates) + at
+            ≡ index_of self.old.federates self.old.buffers address }
+        requires plan { Plans P.rule E.next (place_on P.first table.now.shared self.old) address
+            (λ _. 0) D.deed }
+        ensures same { IsSameTableSeat self.old self.new }
+        ensures step { result ≡ true → desk_of self.new
+            ≡ place_after E.next (D.deed 0)
+            (place_on P.first table.now.shared self.old) ∷ others_with self.old }
+        ensures told { result ≡ true → WasFound P.rule
+            (place_on P.first table.now.shared self.old) address 0 }
+        ensures no_step { result ≡ false → desk_of self.new ≡ desk_of self.old }
+    {
+        let seat = &mut self.seat;
+        table.shared.load::<FindsZero<P, E, D>>(seat, at) == 0
+    }
+
+    /// Swaps a word for 0, whatever it is.
+    fn swap_word<F: Front, D: Plan, E: Event<P::View>>(
         &mut self,
         table: &SeatingTable<P, F>,
         at: usize,

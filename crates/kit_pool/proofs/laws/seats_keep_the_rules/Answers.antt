@@ -1,11 +1,14 @@
 use Rattle.kit_pool.proofs.GuestSteps.{sees}
 use Rattle.kit_pool.proofs.Joining.{joins}
-use Rattle.kit_pool.proofs.SeatSteps.{finds, stores}
+use Rattle.kit_pool.proofs.SeatSteps.{finds, finds_zero, stores}
 use Rattle.kit_pool.proofs.Splitting.{opens, splits}
 use Rattle.kit_pool.proofs.laws.seats_keep_the_rules.Goals as goal
 
 pub returns-clause-steps : goal.returns-clause-steps
 returns-clause-steps g c = λ n b front. finds g.P.Protocol.rule n b front
+
+pub returns-clause-zeros : goal.returns-clause-zeros
+returns-clause-zeros g c = λ n b front. finds_zero g.P.Protocol.rule n b front
 
 pub returns-clause-stores : goal.returns-clause-stores
 returns-clause-stores g c = λ n b front. stores g.P.Protocol.rule n b front

@@ -1,7 +1,7 @@
 use Rattle.std.proofs.Common.{◌∙◌}
 use Rattle.kit_pool.proofs.Owning.{own_after_step}
 use Rattle.kit_pool.proofs.Stepping.{may_find, was_found, word_inside}
-use Rattle.kit_pool.proofs.seat.TableSeat.swap.Goals as goal
+use Rattle.kit_pool.proofs.seat.TableSeat.swap_word.Goals as goal
 
 pub swap-requires : goal.swap-requires
 swap-requires g c =
