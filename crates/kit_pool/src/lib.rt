@@ -13,7 +13,9 @@ pub use dealing::{gather, gather_guests, lay};
 pub use guest::GuestSeat;
 pub use laws::seats_keep_the_rules;
 pub use pool::{Pool, PoolSeat, Registers};
-pub use rule::{Finds, FindsZero, Front, Laid, OwnFirst, Plan, SeatingRule, SeatingTable, Sees, Stores};
+pub use rule::{
+    Finds, FindsZero, Front, Laid, OwnFirst, Plan, SeatingRule, SeatingTable, Sees, Stores,
+};
 pub use seat::{TableSeat, readers};
 
 #[cfg(test)]
