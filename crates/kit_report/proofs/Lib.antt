@@ -1,5 +1,6 @@
 mod Joined
 pub mod InMerge
 pub mod MergeStates
-pub mod Soonest
+pub mod Places
+pub mod Best
 pub mod Taking

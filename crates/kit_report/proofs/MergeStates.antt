@@ -1,12 +1,12 @@
 -- In the midst of a merge, as lines.
-use Rattle.std.proofs.Common.{◌≡◌, ◌≢◌, ℕ, ◌-◌, ◌<◌, ◌≤◌, ◌⊎◌, ◌++◌, List, [], ◌∷◌, length, map, drop, inl, inr, refl, sym, ap, subst, ◌∙◌, arith, slice_set, get_or-set_same, get_or-set_other}
+use Rattle.std.proofs.Common.{◌≡◌, ◌≢◌, ℕ, ◌<◌, ◌≤◌, ◌⊎◌, ◌++◌, List, [], ◌∷◌, length, map, inl, inr, refl, sym, ap, subst, ◌∙◌, arith, slice_set, get_or-set_same, get_or-set_other}
 use Rattle.std.specs.Prelude.{Option, Some, None, slice_index_or}
 use Rattle.std.specs.List.{All}
 use Rattle.std.proofs.Math.Seq.{get_or-append_seam}
 use Rattle.std.proofs.lemmas.Option.{none-some}
-use Rattle.std.proofs.lemmas.List.{length-append, length-set}
+use Rattle.std.proofs.lemmas.List.{length-append}
 use Rattle.std.proofs.lemmas.Grind.{flat_map-append}
-use Rattle.std.proofs.lemmas.List.{append-nil, get_or-map, length-map}
+use Rattle.std.proofs.lemmas.List.{append-nil, get_or-map}
 use mathlib.Core.Logic.{dite}
 use native.Mathlib.Decide.{ℕ_discrete}
 use Rattle.kit_base.specs.declared.message.Message.{Message}
@@ -17,7 +17,7 @@ use Rattle.kit_rules.specs.Simulation.{Block, block_lines, lines_of}
 use Rattle.kit_rules.specs.Merging.{IsPart, IsSooner, blocks_of}
 use Rattle.kit_report.proofs.InMerge.{IsMerging, merge_ends, merge_goes_on, merge_starts}
 use Rattle.kit_rules.specs.Merging.{ArePartsOf, lines_in, IsMerged, lines_at}
-use Rattle.kit_report.specs.Merges.{HaveNoTime, IsSoonest, behind_grant, first_grant_time, last_lines, through_grant, time_left}
+use Rattle.kit_report.specs.Merges.{HaveNoTime, IsSoonest, behind_grant, first_grant_time, through_grant}
 
 -- a block's lines at the front
 first_of_block : (b : Block) (ls : List Line) → first_grant_time (block_lines b ++ ls) ≡ Some b.time
@@ -35,17 +35,20 @@ behind_block : (t i : ℕ) (ms : List Message) (ls : List Line) → behind_grant
 behind_block t i [] ls = refl
 behind_block t i (m ∷ ms) ls = behind_block t i ms ls
 
--- the blocks taken, the blocks left, and the lines of both
-pub record State (parts : List Part) (blocks : List (List Block)) (left : List ℕ) (lines : List Line) : Type 0 where
+-- the blocks taken, the blocks left, and the lines of both; `left` are the lines that are left of each part
+pub record State (parts : List Part) (blocks : List (List Block)) (left : ℕ → List Line) (lines : List Line) : Type 0 where
   pub out : List Block
   pub rest : List (List Block)
   pub merging : IsMerging blocks out rest
   pub lines_are : lines ≡ lines_of out
-  pub long : length left ≡ length parts
-  pub left_are : (k : ℕ) → k < length parts → last_lines (slice_index_or left k 0) (lines_at parts k) ≡ lines_of (slice_index_or rest k [])
+  pub left_are : (k : ℕ) → k < length parts → left k ≡ lines_of (slice_index_or rest k [])
 
-abbrev pub States : List Part → List ℕ → List Line → Type 0
+abbrev pub States : List Part → (ℕ → List Line) → List Line → Type 0
 States parts left lines = (blocks : List (List Block)) → ArePartsOf parts blocks → State parts blocks left lines
+
+-- the time of the first grant that is left of each
+abbrev pub times_of : (ℕ → List Line) → ℕ → Option ℕ
+times_of left k = first_grant_time (left k)
 
 no_blocks : (bs : List Block) → first_grant_time (lines_of bs) ≡ None → bs ≡ []
 no_blocks [] e = refl
@@ -62,7 +65,7 @@ begins : (bs : List Block) (t : ℕ) → first_grant_time (lines_of bs) ≡ Some
 begins [] t e = absurd (none-some t e)
 begins (b ∷ bs) t e = (b, bs, refl, some_same b.time t (sym (first_of_block b (lines_of bs)) ∙ e))
 
-pub ends : (parts : List Part) (left : List ℕ) (lines : List Line) → States parts left lines → HaveNoTime (time_left parts left) (length parts)
+pub ends : (parts : List Part) (left : ℕ → List Line) (lines : List Line) → States parts left lines → HaveNoTime (times_of left) (length parts)
     → (blocks : List (List Block)) → ArePartsOf parts blocks → IsMerged blocks lines
 ends parts left lines states none blocks are =
     let s = states blocks are in
@@ -92,22 +95,21 @@ is_first : (b c : Block) (k j : ℕ) {t : ℕ} → b.time ≡ t → b.federate �
 is_first b c k j bt bk cj other (inl lt) = search (arith, bt)
 is_first b c k j bt bk cj other (inr e) = let x = e.0 in let y = e.1 in search (arith, bt)
 
-pub goes_on : (parts : List Part) (left : List ℕ) (lines now : List Line) (k after : ℕ) → States parts left lines → IsSoonest (time_left parts left) (length parts) k
-    → now ≡ lines ++ through_grant (last_lines (slice_index_or left k 0) (lines_at parts k))
-    → last_lines after (lines_at parts k) ≡ behind_grant (last_lines (slice_index_or left k 0) (lines_at parts k))
-    → States parts (slice_set left k after) now
-goes_on parts left lines now k after states soonest taken rest blocks are =
+pub goes_on : (parts : List Part) (left after : ℕ → List Line) (lines now : List Line) (k : ℕ) → States parts left lines → IsSoonest (times_of left) (length parts) k
+    → now ≡ lines ++ through_grant (left k) → after k ≡ behind_grant (left k) → ((j : ℕ) → j < length parts → j ≢ k → after j ≡ left j)
+    → States parts after now
+goes_on parts left after lines now k states soonest taken rest others blocks are =
     let s = states blocks are in
     let lk = soonest.inside in
     let lb : k < length blocks = omega (arith, are.count) in
     let at = begins (slice_index_or s.rest k []) soonest.time (sym (ap first_grant_time (s.left_are k lk)) ∙ soonest.time_is) in
     let b = at.0 in
     let bs = at.1 in
-    let here : last_lines (slice_index_or left k 0) (lines_at parts k) ≡ block_lines b ++ lines_of bs = s.left_are k lk ∙ ap lines_of at.2 in
+    let here : left k ≡ block_lines b ++ lines_of bs = s.left_are k lk ∙ ap lines_of at.2 in
     let by : (j : ℕ) (c : Block) (cs : List Block) → j < length blocks → slice_index_or s.rest j [] ≡ c ∷ cs → c.federate ≡ j = λ j c cs lj is. owner blocks s.out s.rest s.merging are.parts_are j lj c cs is in
     let first : (j : ℕ) (c : Block) (cs : List Block) → j < length blocks → j ≢ k → slice_index_or s.rest j [] ≡ c ∷ cs → IsSooner b c = λ j c cs lj other is.
     let lj' : j < length parts = omega (arith, are.count) in
-    let time : time_left parts left j ≡ Some c.time = ap first_grant_time (s.left_are j lj' ∙ ap lines_of is) ∙ first_of_block c (lines_of cs) in
+    let time : times_of left j ≡ Some c.time = ap first_grant_time (s.left_are j lj' ∙ ap lines_of is) ∙ first_of_block c (lines_of cs) in
     is_first b c k j at.3 (by k b bs lb at.2) (by j c cs lj is) other (soonest.least j c.time lj' time) in
     record {
       out = s.out ++ b ∷ [];
@@ -115,43 +117,23 @@ goes_on parts left lines now k after states soonest taken rest blocks are =
       merging = merge_goes_on blocks are.parts_are s.out s.rest s.merging k lb b bs at.2 first;
       lines_are = taken ∙ (ap (λ (l : List Line). lines ++ through_grant l) here ∙ (ap (λ (l : List Line). lines ++ l) (through_block b.time b.federate b.delivered (lines_of bs))
           ∙ (ap (λ (l : List Line). l ++ block_lines b) s.lines_are ∙ sym (flat_map-append block_lines s.out (b ∷ []) ∙ ap (λ (l : List Line). lines_of s.out ++ l) (append-nil (block_lines b))))));
-      long = length-set left k after ∙ s.long;
       left_are = λ j lj. dite (ℕ_discrete j k)
           (λ same.
           let lr : k < length s.rest = let n = s.merging.count in omega arith in
-          let ll : k < length left = let n = s.long in omega arith in
-          ap (λ (x : ℕ). last_lines (slice_index_or (slice_set left k after) x 0) (lines_at parts x)) same
-          ∙ (ap (λ (v : ℕ). last_lines v (lines_at parts k)) (get_or-set_same left k after 0 ll)
-          ∙ (rest ∙ (ap behind_grant here ∙ (behind_block b.time b.federate b.delivered (lines_of bs)
-          ∙ (ap lines_of (sym (get_or-set_same s.rest k bs [] lr)) ∙ ap (λ (x : ℕ). lines_of (slice_index_or (slice_set s.rest k bs) x [])) (sym same)))))))
-          (λ other. ap (λ (v : ℕ). last_lines v (lines_at parts j)) (get_or-set_other left k j after 0 other)
-          ∙ (s.left_are j lj ∙ ap lines_of (sym (get_or-set_other s.rest k j bs [] other))));
+          ap after same ∙ (rest ∙ (ap behind_grant here ∙ (behind_block b.time b.federate b.delivered (lines_of bs)
+          ∙ (ap lines_of (sym (get_or-set_same s.rest k bs [] lr)) ∙ ap (λ (x : ℕ). lines_of (slice_index_or (slice_set s.rest k bs) x [])) (sym same))))))
+          (λ other. others j lj other ∙ (s.left_are j lj ∙ ap lines_of (sym (get_or-set_other s.rest k j bs [] other))));
     }
-
-no_part : Part
-no_part = record { lines = []; vars = [] }
 
 pub part_lines : (parts : List Part) (k : ℕ) (p : Part) → k < length parts → p ≡ slice_index_or parts k p → lines_at parts k ≡ p.lines
 part_lines parts k p lt is = get_or-map lines_in parts k p [] lt ∙ ap lines_in (sym is)
 
-abbrev part_long : Part → ℕ
-part_long p = length p.lines
-
-drop_none : (ls : List Line) → last_lines (length ls) ls ≡ ls
-drop_none ls = ap (λ (n : ℕ). drop n ls) none
-  where
-    none : length ls - length ls ≡ 0
-    none = omega arith
-
-pub begins_all : (parts : List Part) (left : List ℕ) (lines : List Line) → left ≡ map part_long parts → lines ≡ [] → States parts left lines
-begins_all parts left lines is none blocks are = record {
+-- nothing was taken
+pub begins_all : (parts : List Part) (left : ℕ → List Line) (lines : List Line) → ((k : ℕ) → k < length parts → left k ≡ lines_at parts k) → lines ≡ [] → States parts left lines
+begins_all parts left lines all none blocks are = record {
   out = [];
   rest = blocks;
   merging = merge_starts blocks;
   lines_are = none;
-  long = ap (λ (l : List ℕ). length l) is ∙ length-map parts part_long;
-  left_are = λ k lt.
-      let at : slice_index_or left k 0 ≡ length (lines_at parts k) = ap (λ (l : List ℕ). slice_index_or l k 0) is
-      ∙ (get_or-map part_long parts k no_part 0 lt ∙ ap (λ (l : List Line). length l) (sym (get_or-map lines_in parts k no_part [] lt))) in
-      ap (λ (n : ℕ). last_lines n (lines_at parts k)) at ∙ (drop_none (lines_at parts k) ∙ are.lines k lt);
+  left_are = λ k lt. all k lt ∙ are.lines k lt;
 }

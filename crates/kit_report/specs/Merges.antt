@@ -1,9 +1,9 @@
 -- What is left of parts, as lines, and which of them is next in their merge.
-use Rattle.std.specs.Prelude.{◌≡◌, ℕ, ◌-◌, ◌<◌, ◌≤◌, ◌⊎◌, List, [], ◌∷◌, length, drop, slice_index_or, nat_le, if◌then◌else◌, Option, None, Some}
+use Rattle.std.specs.Prelude.{◌≡◌, ℕ, ◌-◌, ◌<◌, ◌≤◌, ◌⊎◌, List, [], ◌∷◌, length, map, drop, slice_index_or, nat_le, if◌then◌else◌, Option, None, Some}
 use Rattle.kit_base.specs.declared.history.Line.{Line}
 use Rattle.kit_base.specs.declared.history.Line.TheVariants.{Deliver, Grant}
 use Rattle.kit_base.specs.declared.history.Part.{Part}
-use Rattle.kit_rules.specs.Merging.{lines_at}
+use Rattle.kit_report.specs.declared.merging.Place.{Place}
 
 -- the time with which a line was granted
 abbrev pub grant_time : Line → ℕ
@@ -19,9 +19,26 @@ first_grant_time (l ∷ ls) = Some (grant_time l)
 abbrev pub last_lines : ℕ → List Line → List Line
 last_lines left lines = drop (length lines - left) lines
 
--- the grant time of the first line that is left of a part
-abbrev pub time_left : List Part → List ℕ → ℕ → Option ℕ
-time_left parts left k = first_grant_time (last_lines (slice_index_or left k 0) (lines_at parts k))
+-- the place in a part's lines where so many of them are left
+abbrev pub place_in : ℕ → List Line → Place
+place_in left lines = record { left = left; time = first_grant_time (last_lines left lines) }
+
+-- the place before all lines of a part
+abbrev pub first_place : Part → Place
+first_place part = place_in (length part.lines) part.lines
+
+-- how much is left at the place k, and the time of the first grant that is
+abbrev pub left_in : Place → ℕ
+left_in place = place.left
+
+abbrev pub left_at : List Place → ℕ → ℕ
+left_at places k = slice_index_or (map left_in places) k 0
+
+abbrev pub time_in : Place → Option ℕ
+time_in place = place.time
+
+abbrev pub time_at : List Place → ℕ → Option ℕ
+time_at places k = slice_index_or (map time_in places) k None
 
 -- the lines up to the first grant
 abbrev pub through_grant : List Line → List Line

@@ -146,7 +146,12 @@ fn push_grant(
     push_front(out, federation, time, federate, b" grant\n")
 }
 
-fn push_line(out: &mut Vec<u8>, federation: &Federation, line: &Line) -> Result<(), AllocError>
+/// Writes a line of a history of the federation.
+pub fn push_line(
+    out: &mut Vec<u8>,
+    federation: &Federation,
+    line: &Line,
+) -> Result<(), AllocError>
     requires { LineFits federation.now line.now }
     ensures { OnOk result (out.new.items ≡ out.old.items ++ line_text federation.now line.now) }
 {
@@ -191,7 +196,12 @@ fn push_vars(out: &mut Vec<u8>, vars: &[Var], values: &[u32; 8]) -> Result<(), A
     Ok(())
 }
 
-fn push_closing(out: &mut Vec<u8>, federate: &Federate, values: &[u32; 8]) -> Result<(), AllocError>
+/// Writes a federate's closing line with the values of its variables, in the order of its table.
+pub fn push_closing(
+    out: &mut Vec<u8>,
+    federate: &Federate,
+    values: &[u32; 8],
+) -> Result<(), AllocError>
     requires { length federate.now.vars ≤ 8 }
     ensures { OnOk result (out.new.items ≡ out.old.items ++ closing_text federate.now values.now) }
 {

@@ -2,14 +2,23 @@
 
 ghost use Rattle.std.specs.Prelude.{◌≡◌, ◌≢◌, ◌<◌, ◌≤◌, ◌++◌, List, length, map, IfOk, IfSome};
 ghost use Rattle.std.specs.Prelude.{IfNone, OnOk, None};
-ghost use Rattle.kit_rules.specs.Merging.{ArePartsOf, IsMerged, lines_at, vars_in};
-ghost use Rattle.kit_report.specs.Merges.{HaveNoTime, IsSoonest, behind_grant, first_grant_time};
-ghost use Rattle.kit_report.specs.Merges.{last_lines, sooner_of, through_grant, time_left};
-ghost use Rattle.kit_report.specs.Merges.{grant_time};
+ghost use Rattle.kit_rules.specs.Merging.{ArePartsOf, IsMerged, vars_in};
 ghost use Rattle.kit_rules.specs.Simulation.{Block};
+ghost use Rattle.kit_report.specs.Merges.{HaveNoTime, IsSoonest, behind_grant, first_grant_time};
+ghost use Rattle.kit_report.specs.Merges.{first_place, grant_time, last_lines, place_in, sooner_of};
+ghost use Rattle.kit_report.specs.Merges.{through_grant, time_at};
 
 use kit_base::{History, Items, Line, Part};
 use std::alloc::{AllocError, Global};
+
+/// A place in what a federate's part tells.
+#[derive(Clone, Copy, Debug)]
+pub struct Place {
+    /// How much of the part is left.
+    pub left: usize,
+    /// The time of the first grant that is left, if one is.
+    pub time: Option<u64>,
+}
 
 /// The time with which a line was granted.
 fn granted_at(line: &Line) -> u64
@@ -30,15 +39,25 @@ fn next_time(part: &Part, left: usize) -> Option<u64>
     Some(granted_at(line))
 }
 
-/// The first of the parts whose next time is the least.
-fn soonest(parts: &[Part], left: &[usize]) -> Option<usize>
-    requires { length left.now ≡ length parts.now }
-    ensures some { IfSome result (IsSoonest (time_left parts.now left.now) (length parts.now)) }
-    ensures none { IfNone result (HaveNoTime (time_left parts.now left.now) (length parts.now)) }
+/// The place in a part where so many lines are left.
+fn place_in(part: &Part, left: usize) -> Place
+    ensures { result ≡ place_in left part.now.lines }
+{
+    Place {
+        left,
+        time: next_time(part, left),
+    }
+}
+
+/// The first of the places with the least time: those in the parts of a merge, in the order of the
+/// federates, give that of the part whose block comes next.
+pub fn soonest(places: &[Place]) -> Option<usize>
+    ensures some { IfSome result (IsSoonest (time_at places.now) (length places.now)) }
+    ensures none { IfNone result (HaveNoTime (time_at places.now) (length places.now)) }
 {
     let mut best: Option<(u64, usize)> = None;
-    for at in 0..parts.len() {
-        if let Some(time) = next_time(&parts[at], left[at]) {
+    for (at, place) in places.iter().enumerate() {
+        if let Some(time) = place.time {
             best = sooner(best, time, at);
         }
     }
@@ -111,22 +130,23 @@ fn merge_lines(alloc: Global, parts: &[Part]) -> Result<Items<Line>, AllocError>
         ArePartsOf parts.now blocks → IsMerged blocks lines) }
 {
     let mut lines = Items::new(alloc);
-    let mut left = all_left(alloc, parts)?;
-    while let Some(at) = soonest(parts, left.as_slice()) {
-        left[at] = take_block(&mut lines, &parts[at], left[at])?;
+    let mut places = first_places(alloc, parts)?;
+    while let Some(at) = soonest(&places) {
+        let left = take_block(&mut lines, &parts[at], places[at].left)?;
+        places[at] = place_in(&parts[at], left);
     }
     Ok(lines)
 }
 
-/// How many lines are left of each part at first.
-fn all_left(alloc: Global, parts: &[Part]) -> Result<Vec<usize>, AllocError>
-    ensures { IfOk result (λ left. left.items ≡ map (λ (p : _). length p.lines) parts.now) }
+/// The place in each part at first.
+fn first_places(alloc: Global, parts: &[Part]) -> Result<Vec<Place>, AllocError>
+    ensures { IfOk result (λ places. places.items ≡ map first_place parts.now) }
 {
-    let mut left = Vec::new(alloc);
+    let mut places = Vec::with_capacity(alloc, parts.len())?;
     for part in parts {
-        left.push(part.lines.len())?;
+        places.push(place_in(part, part.lines.len()))?;
     }
-    Ok(left)
+    Ok(places)
 }
 
 #[cfg(test)]

@@ -1,10 +1,10 @@
-use Rattle.std.proofs.Common.{◌≡◌, length}
-use Rattle.std.specs.Prelude.{sum}
-use Rattle.kit_report.proofs.MergeStates.{States}
+use Rattle.std.specs.List.{sum_by}
+use Rattle.kit_report.specs.Merges.{left_in}
+use Rattle.kit_report.proofs.Places.{IsUnderWay, part_rest}
 use Rattle.kit_report.proofs.merging.merge_lines.Given as goal
 
 abbrev pub invariant-loop-at : goal.invariant-loop-at
-invariant-loop-at l = States l.parts l.left.items l.lines × (length l.left.items ≡ length l.parts)
+invariant-loop-at l = IsUnderWay l.parts (part_rest l.parts) l.places.items l.lines
 
 abbrev pub decreases-loop-at : goal.decreases-loop-at
-decreases-loop-at l = sum l.left.items
+decreases-loop-at l = sum_by left_in l.places.items
