@@ -147,11 +147,7 @@ fn push_grant(
 }
 
 /// Writes a line of a history of the federation.
-pub fn push_line(
-    out: &mut Vec<u8>,
-    federation: &Federation,
-    line: &Line,
-) -> Result<(), AllocError>
+pub fn push_line(out: &mut Vec<u8>, federation: &Federation, line: &Line) -> Result<(), AllocError>
     requires { LineFits federation.now line.now }
     ensures { OnOk result (out.new.items ≡ out.old.items ++ line_text federation.now line.now) }
 {
