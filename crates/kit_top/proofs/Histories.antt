@@ -2,16 +2,13 @@
 use Rattle.std.proofs.Common.{◌≡◌, ℕ, zero, suc, ◌+◌, ◌<◌, List, [], ◌∷◌, ◌++◌, length, map, get_or, Result, Ok, Err, IfOk, refl, sym, subst, ap, ◌∙◌, arith, length-append}
 use mathlib.Core.Option.{some, some-injective, some-ne-none}
 use lib.ListN.{get_elem?}
-use Rattle.std.specs.List.{All}
 use Rattle.std.proofs.lemmas.List.{length-map}
 use Rattle.kit_base.specs.declared.history.Line.{Line}
 use Rattle.kit_base.specs.declared.history.Part.{Part}
 use Rattle.kit_rules.specs.Federation.{IsFederation}
-use Rattle.kit_rules.specs.Fits.{LineFits}
 use Rattle.kit_rules.specs.Merging.{ArePartsOf, IsMerged, vars_in}
 use Rattle.kit_rules.specs.Simulation.{Block}
 use Rattle.kit_rules.specs.Parts.{Parts}
-use Rattle.kit_laws.proofs.Fitting.{simulated_fits}
 use Rattle.kit_model.specs.Journals.{lines_told}
 use Rattle.kit_node.specs.declared.node.NodeReport.{NodeReport}
 use Rattle.kit_replay.specs.Parts.{AreSimulated, AreToldParts, WholePartsMerge}
@@ -61,10 +58,7 @@ more_told reports n parts r q below is lines vars told = record {
 pub all_told : (reports : List NodeReport) (n : ℕ) (parts : List Part) → n ≡ length reports → AreTold reports n parts → AreToldParts reports parts
 all_told reports n parts e told = record { many = told.many ∙ e; each = λ i r q at here. told.each i q here r at }
 
--- a history of whole parts is the simulation's: its lines name what is there, and it has the variables of each federate
-pub lines_fit : (p : Parts) (lines : List Line) (vars : List (List ℕ)) → IsFederation p → AreSimulated p lines vars → All (LineFits p) lines
-lines_fit p lines vars f s = let P : List Line → Type 0 = All (LineFits p) in subst P (sym s.lines_are) (simulated_fits p f)
-
+-- there are variables of each federate
 pub vars_for_each : (p : Parts) (reports : List NodeReport) (parts given : List Part) (vars : List (List ℕ)) → AreWholeParts p reports → AreToldParts reports parts → given ≡ parts → vars ≡ map vars_in given → length vars ≡ length p.federates
 vars_for_each p reports parts given vars whole told same vars_are = ap length (vars_are ∙ ap (map vars_in) same) ∙ length-map parts vars_in ∙ told.many ∙ whole.many
 

@@ -1,19 +1,34 @@
-//! The histories that nodes report, as one.
+//! The summary of what nodes report.
 
 ghost use Rattle.std.specs.Prelude.{◌≡◌, ◌<◌, IfOk, length};
 ghost use Rattle.kit_model.specs.Journals.{lines_told};
 ghost use Rattle.kit_replay.specs.Parts.{AreSimulated, AreToldParts};
 ghost use Rattle.kit_replay.specs.Reports.{AreWholeParts};
+ghost use Rattle.kit_report.specs.Summary.{simulation_summary};
 
 use kit_base::{History, Part};
 use kit_node::NodeReport;
 use kit_replay::whole_parts_merge;
-use kit_report::merge;
+use kit_report::{merge, summary};
 use kit_rules::Federation;
 use std::alloc::{AllocError, Global};
 
+/// The summary of the federation of a generator's number, from what the nodes report of whole runs.
+pub(crate) fn histories_summary(
+    alloc: Global,
+    number: u64,
+    federation: &Federation,
+    nodes: &[NodeReport],
+) -> Result<Vec<u8>, AllocError>
+    requires { AreWholeParts federation.now nodes.now }
+    ensures { IfOk result (λ text. text.items ≡ simulation_summary number federation.now) }
+{
+    let history = history_of(alloc, federation, nodes)?;
+    summary(alloc, number, federation, &history)
+}
+
 /// The history of all federates, from what the nodes report of whole runs.
-pub(crate) fn history_of(
+fn history_of(
     alloc: Global,
     federation: &Federation,
     nodes: &[NodeReport],

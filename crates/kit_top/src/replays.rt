@@ -1,21 +1,19 @@
 //! What `replay` answers.
 
-ghost use Rattle.std.specs.Prelude.{◌≡◌, IfOk};
+ghost use Rattle.std.specs.Prelude.{◌≡◌};
 ghost use Rattle.kit_io.specs.Causes.{Rose};
 ghost use Rattle.kit_replay.specs.Reports.{AreWholeParts};
-ghost use Rattle.kit_rules.specs.Text.{simulation_text};
 ghost use Rattle.kit_top.specs.Causes.{CanTell, EndCauses, EndsWith, IsRunOf, ReplayCauses, Told};
 
 use crate::bad_end::tell_bad_end;
-use crate::history::history_of;
 use crate::writing::tell;
 use crate::{Ended, Status};
 use kit_io::Sink;
 use kit_node::{End, NodeReport};
 use kit_replay::replay;
-use kit_report::text;
 use kit_rules::Federation;
 use kit_schedule::Schedule;
+use kit_telling::histories_text;
 use std::alloc::{AllocError, Global};
 
 /// The most rounds that a node takes part in.
@@ -78,18 +76,4 @@ fn tell_histories<K: Sink>(
         Ok(text) => tell(sink, &text, Status::Done),
         Err(AllocError) => Status::NoMemory,
     }
-}
-
-/// The text of the histories that nodes report.
-fn histories_text(
-    alloc: Global,
-    federation: &Federation,
-    nodes: &[NodeReport],
-) -> Result<Vec<u8>, AllocError>
-    requires { AreWholeParts federation.now nodes.now }
-    ensures { IfOk result (λ text. text.items ≡ simulation_text federation.now) }
-{
-    federation.keeps_its_limits();
-    let history = history_of(alloc, federation, nodes)?;
-    text(alloc, federation, &history)
 }

@@ -9,7 +9,7 @@ ghost use Rattle.kit_top.specs.WorkerRuns.{CanTellBy, EndsByWorkers, IsFederatio
 ghost use Rattle.kit_top.specs.WorkerRuns.{WorkerCauses, WorkerEndCauses, text_by};
 
 use crate::bad_end::tell_bad_end;
-use crate::history::history_of;
+use crate::history::histories_summary;
 use crate::input::read_input;
 use crate::writing::tell;
 use crate::{Ended, Status, WorkerCommand};
@@ -19,9 +19,9 @@ use kit_ground::PlainFloor;
 use kit_io::{Sink, Source};
 use kit_lbts::Lbts;
 use kit_node::{End, NodeReport};
-use kit_report::{summary, text};
 use kit_rules::Federation;
 use kit_runner::{Gate, lock_run, run};
+use kit_telling::histories_text;
 use std::alloc::{AllocError, Global};
 use std::sync::Wait;
 use std::thread::Threads;
@@ -99,7 +99,7 @@ fn run_nodes<G: Gate + Send, R: Threads + Wait + Sync>(
     }
 }
 
-/// What a command asks of a federation, from the histories that the nodes report.
+/// What a command asks of a federation, from what the nodes report.
 fn run_text(
     alloc: Global,
     command: &WorkerCommand,
@@ -109,11 +109,11 @@ fn run_text(
     requires { AreWholeParts federation.now nodes.now }
     ensures { IfOk result (λ text. text.items ≡ text_by command.now federation.now) }
 {
-    federation.keeps_its_limits();
-    let history = history_of(alloc, federation, nodes)?;
     match command {
-        WorkerCommand::Lock(_) | WorkerCommand::Run(_) => text(alloc, federation, &history),
-        WorkerCommand::Trial { number, .. } => summary(alloc, *number, federation, &history),
+        WorkerCommand::Lock(_) | WorkerCommand::Run(_) => histories_text(alloc, federation, nodes),
+        WorkerCommand::Trial { number, .. } => {
+            histories_summary(alloc, *number, federation, nodes)
+        }
     }
 }
 

@@ -1,46 +1,14 @@
 //! Whether what a run came to is what the sequential simulation allows.
-ghost use Rattle.std.specs.Prelude.{◌≡◌, ◌<◌, IfOk, length};
-ghost use Rattle.kit_replay.specs.Parts.{AreToldParts};
 ghost use Rattle.kit_replay.specs.Reports.{AreWholeParts};
-ghost use Rattle.kit_rules.specs.Text.{simulation_text};
 ghost use Rattle.kit_runner.specs.Runs.{IsRan};
 
-use kit_base::Part;
 use kit_node::{End, NodeReport};
 use kit_oracle::{OracleEnd, need, simulate};
-use kit_replay::whole_parts_merge;
-use kit_report::{merge, text};
+use kit_report::text;
 use kit_rules::Federation;
 use kit_runner::Ran;
+use kit_telling::histories_text;
 use std::alloc::{AllocError, Global};
-
-/// What nodes report of their federates, each as a part of a history.
-fn parts_of(alloc: Global, nodes: &[NodeReport]) -> Result<Vec<Part>, AllocError>
-    requires { length nodes.now < 256 }
-    ensures { IfOk result (λ parts. AreToldParts nodes.now parts.items) }
-{
-    let mut parts = Vec::with_capacity(alloc, nodes.len())?;
-    for (federate, node) in nodes.iter().enumerate() {
-        parts.push(node.journal.part(alloc, federate as u8, node.vars)?)?;
-    }
-    Ok(parts)
-}
-
-/// The text of the histories that nodes report.
-fn histories_text(
-    alloc: Global,
-    federation: &Federation,
-    nodes: &[NodeReport],
-) -> Result<Vec<u8>, AllocError>
-    requires { AreWholeParts federation.now nodes.now }
-    ensures { IfOk result (λ text. text.items ≡ simulation_text federation.now) }
-{
-    federation.keeps_its_limits();
-    whole_parts_merge();
-    let parts = parts_of(alloc, nodes)?;
-    let history = merge(alloc, &parts)?;
-    text(alloc, federation, &history)
-}
 
 /// The text of the simulation.
 fn simulated(alloc: Global, federation: &Federation) -> Result<Vec<u8>, OracleEnd> {
