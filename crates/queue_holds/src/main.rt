@@ -1,6 +1,7 @@
 //! Holds a queue at a number of entries: takes the first and inserts it again some time later, as
 //! often as asked, and prints the sum of the times taken. It is for measuring what a queue costs.
-//! Words: `ring` or `calendar`; `uniform`, `exponential` or `bimodal`; how many entries; how often.
+//! Words: `ring`, `calendar` or `batch`; `uniform`, `exponential` or `bimodal`; how many entries;
+//! how often.
 #![tactic(auto)]
 
 mod draws;
@@ -8,6 +9,7 @@ mod holds;
 
 use draws::Increments;
 use holds::hold_many;
+use kit_batch::BatchQueue;
 use kit_calendar::Calendar;
 use kit_queue::TsQueue;
 use std::alloc::{AllocError, Global};
@@ -19,6 +21,7 @@ use std::{env, io};
 enum Queue {
     Ring,
     Calendar,
+    Batch,
 }
 
 /// What the words of the command line ask for.
@@ -34,6 +37,7 @@ fn queue_of(word: &str) -> Option<Queue> {
     match word.as_bytes() {
         b"ring" => Some(Queue::Ring),
         b"calendar" => Some(Queue::Calendar),
+        b"batch" => Some(Queue::Batch),
         _ => None,
     }
 }
@@ -77,6 +81,7 @@ fn sum_of(alloc: Global, task: &Task) -> Result<u64, AllocError> {
     match task.queue {
         Queue::Ring => hold_many::<TsQueue>(alloc, task.increments, task.entries, task.holds),
         Queue::Calendar => hold_many::<Calendar>(alloc, task.increments, task.entries, task.holds),
+        Queue::Batch => hold_many::<BatchQueue>(alloc, task.increments, task.entries, task.holds),
     }
 }
 
