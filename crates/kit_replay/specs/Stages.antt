@@ -4,7 +4,8 @@ use mathlib.Core.Option.{some}
 use lib.ListN.{get_elem?}
 use Rattle.kit_rules.specs.Parts.{Parts}
 use Rattle.kit_queue.specs.declared.entry.Entry.{Entry}
-use Rattle.kit_queue.specs.declared.ts_queue.TsQueue.{TsQueue}
+use Rattle.kit_batch.specs.Gathered.{gathered}
+use Rattle.kit_batch.specs.declared.batch_queue.BatchQueue.{BatchQueue}
 use Rattle.kit_ground.specs.Floors.{new_floor}
 use Rattle.kit_lbts.specs.declared.view.Scheme.TheVariants as scheme
 use Rattle.kit_lbts.specs.Progress.{lbts_first}
@@ -26,16 +27,16 @@ use Rattle.kit_replay.specs.Endings.{Seat}
 use Rattle.kit_replay.specs.Schedules.{GivenTurn, StepsUntil, entries_below, steps_of, turns_of, whose}
 
 abbrev pub QueueNode : Type 0
-QueueNode = Node TsQueue Butterfly
+QueueNode = Node BatchQueue Butterfly
 
 -- how contracts see what such a node is made of
-abbrev pub entries_in : TsQueue → List Entry
-entries_in queue = queue.waiting.items
+abbrev pub entries_in : BatchQueue → List Entry
+entries_in queue = gathered (queue.fresh.items ++ queue.waiting.items)
 
 abbrev pub round_in : Butterfly → RoundState
 round_in r = record { federates = r.federates; number = r.me; round = r.round; value = r.value; taken = r.taken }
 
-abbrev pub shown : Shown TsQueue Butterfly
+abbrev pub shown : Shown BatchQueue Butterfly
 shown = shows entries_in scheme.Butterfly round_in
 
 -- a new floor for this federation

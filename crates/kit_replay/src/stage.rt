@@ -7,11 +7,11 @@ ghost use Rattle.kit_replay.specs.Stages.{AreReported, ClosesWith, GoesOn, IsNew
 ghost use Rattle.kit_replay.specs.Stages.{RunsTo, TurnsTo, end_by};
 
 use crate::Replayed;
+use kit_batch::BatchQueue;
 use kit_ground::PlainFloor;
 use kit_known::Known;
 use kit_lbts::Lbts;
 use kit_node::{End, Node, NodeReport, Turn, opening};
-use kit_queue::TsQueue;
 use kit_rules::Federation;
 use std::alloc::{AllocError, Global};
 
@@ -19,7 +19,7 @@ use std::alloc::{AllocError, Global};
 #[derive(Drop)]
 pub(crate) struct Stage {
     floor: PlainFloor<Lbts>,
-    nodes: Vec<Node<TsQueue>>,
+    nodes: Vec<Node<BatchQueue>>,
     /// Room for the reports.
     reports: Vec<NodeReport>,
 }

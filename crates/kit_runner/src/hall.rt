@@ -7,12 +7,12 @@ ghost use Rattle.kit_runner.specs.Halls.{HasPlayed, run_on};
 
 use crate::ends::{activity_of, is_bad, is_last};
 use crate::{Gate, PassingGround};
+use kit_batch::BatchQueue;
 use kit_deal::{Activity, Deal, Shop};
 use kit_floor::{FloorSeat, TableFloor};
 use kit_ground::Ground;
 use kit_lbts::{Lbts, LbtsEvent};
 use kit_node::{Node, Turn};
-use kit_queue::TsQueue;
 use kit_rules::Federation;
 use std::marker::{Brand, PhantomData};
 
@@ -20,7 +20,7 @@ use std::marker::{Brand, PhantomData};
 #[derive(Drop)]
 pub(crate) struct Player {
     // In a box, so that little is moved where it is dealt.
-    pub(crate) node: Box<Node<TsQueue>>,
+    pub(crate) node: Box<Node<BatchQueue>>,
     pub(crate) seat: FloorSeat<Lbts>,
     /// Whether the node has ended, or saw that the run is to stop.
     pub(crate) has_ended: bool,
@@ -61,7 +61,7 @@ impl<J: Naming> Deal for Players<J> {
 
 /// Gives a node that goes on a turn, and sets the stop word where the turn ends it badly.
 pub(crate) fn give_turn<H: Ground<Under = Lbts>>(
-    node: &mut Node<TsQueue>,
+    node: &mut Node<BatchQueue>,
     federation: &Federation,
     standing: &mut H,
 ) -> Turn

@@ -13,12 +13,12 @@ use crate::Locked;
 use crate::ends::{activity_of, end_with, is_last};
 use crate::hall::give_turn;
 use crate::runs::MOST_ROUNDS;
+use kit_batch::BatchQueue;
 use kit_deal::Activity;
 use kit_ground::PlainFloor;
 use kit_known::Known;
 use kit_lbts::Lbts;
 use kit_node::{End, Node, NodeReport, opening};
-use kit_queue::TsQueue;
 use kit_rules::Federation;
 use std::alloc::{AllocError, Global};
 use std::sync::Wait;
@@ -26,7 +26,7 @@ use std::sync::Wait;
 /// A node of a run.
 #[derive(Drop)]
 pub(crate) struct Member {
-    pub(crate) node: Node<TsQueue>,
+    pub(crate) node: Node<BatchQueue>,
     /// Whether the node has ended, or saw that the run is to stop.
     pub(crate) has_ended: bool,
 }
