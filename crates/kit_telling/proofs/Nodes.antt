@@ -1,15 +1,14 @@
 -- In the midst of telling the journals of nodes, with a place in each.
-use Rattle.std.proofs.Common.{◌≡◌, ◌≢◌, ℕ, ◌<◌, ◌≤◌, List, [], ◌++◌, length, map, refl, sym, ap, subst, ◌∙◌, arith, slice_set}
+use Rattle.std.proofs.Common.{◌≡◌, ◌≢◌, ℕ, ◌<◌, ◌≤◌, List, [], ◌++◌, length, map, refl, sym, ap, ◌∙◌, arith, slice_set}
 use Rattle.std.specs.Prelude.{None, slice_index_or}
 use Rattle.std.specs.List.{AllByRecursion, sum_by}
 use Rattle.std.proofs.lemmas.List.Sums.{sum_by-set}
 use Rattle.std.proofs.lemmas.Grind.{flat_map-append}
 use Rattle.std.proofs.lemmas.List.{append_assoc, append-nil, get_or-map, length-map, length-set}
 use Rattle.kit_base.specs.declared.history.Line.{Line}
-use Rattle.kit_base.specs.declared.history.Part.{Part}
 use Rattle.kit_rules.specs.Federation.{IsFederation}
 use Rattle.kit_rules.specs.Fits.{LineFits}
-use Rattle.kit_rules.specs.Merging.{lines_at, vars_in}
+use Rattle.kit_rules.specs.Merging.{vars_in}
 use Rattle.kit_rules.specs.Parts.{Parts}
 use Rattle.kit_rules.specs.Text.{closings_text, line_text, simulation_text}
 use mathlib.Core.Option.{some}

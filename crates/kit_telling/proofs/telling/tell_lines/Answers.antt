@@ -1,6 +1,5 @@
 use Rattle.std.proofs.Common.{◌≡◌, ◌++◌, ◌<◌, ◌≤◌, ℕ, List, length, ap, subst, sym, ◌∙◌, arith}
 use Rattle.std.specs.List.{AllByRecursion}
-use Rattle.std.proofs.lemmas.List.{get_or_read}
 use Rattle.kit_rules.specs.Fits.{LineFits}
 use Rattle.kit_model.specs.declared.journal.JournalEntry.{JournalEntry}
 use Rattle.kit_model.specs.Journals.{lines_told}
