@@ -1,5 +1,5 @@
 -- A walk that ended, as seen from further out.
-use Rattle.std.proofs.Common.{◌≡◌, ℕ, List, ◌++◌, Result, Err, refl}
+use Rattle.std.proofs.Common.{ℕ, List, Result, refl}
 use Rattle.kit_file.specs.declared.fault.Fault.{Fault}
 use Rattle.kit_file.specs.declared.fault.WalkEnd.{WalkEnd}
 use Rattle.kit_file.specs.declared.fault.WalkEnd.TheVariants as walk_end

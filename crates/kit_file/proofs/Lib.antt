@@ -1,6 +1,9 @@
 pub mod Views
 pub mod Rest
 pub mod Pushes
+pub mod Ends
+pub mod Subscribed
+pub mod Making
+pub mod Contents
 pub mod KeysMean
 pub mod Ranges
-pub mod Ends

@@ -1,7 +1,7 @@
 -- Places take what is within their limits.
-use Rattle.std.proofs.Common.{◌≡◌, ◌≢◌, ℕ, suc, ◌^◌, ◌-◌, ◌<◌, ◌≤◌, List, [], ◌∷◌, length, Bool, true, false, ◌||◌, Option, Some, None, Result, Ok, codes, nat_lt, nat_le, nat_eq, inl, inr, arith, rules, refl, sym, ap, subst, ◌∙◌}
+use Rattle.std.proofs.Common.{◌≡◌, ◌≢◌, ℕ, ◌^◌, ◌+◌, ◌-◌, ◌<◌, ◌≤◌, List, [], ◌∷◌, length, true, false, ◌||◌, Option, Some, None, Result, Ok, codes, nat_lt, nat_le, inl, inr, arith, refl, sym, ap}
 use Rattle.std.specs.Prelude.{if◌then◌else◌, option_and_then}
-use Rattle.std.specs.List.{All, list_any}
+use Rattle.std.specs.List.{All}
 use Rattle.std.proofs.lemmas.Bool.{cases_Bool}
 use Rattle.std.specs.Cmp.Lexicographic.{same_text}
 use Rattle.std.proofs.lemmas.List.Elements.{All-head, All-tail}
@@ -15,9 +15,9 @@ use Rattle.kit_rules.proofs.NameForms.{names_are_tested_law}
 use Rattle.kit_file.specs.declared.fault.FaultKind.TheVariants as kind
 use Rattle.kit_file.specs.declared.fault.Fault.{Fault}
 use Rattle.kit_file.specs.Paths.{key_path}
-use Rattle.kit_file.specs.Reading.{◌>>=◌, fault_at, or_fault, guard}
+use Rattle.kit_file.specs.Reading.{◌>>=◌, fault_at, or_fault}
 use Rattle.kit_file.specs.Places.{member, number, text, list, list_of, optional_list, data_of, is_same}
-use Rattle.kit_file.specs.Names.{itself, var_name, group_name, name, fresh, is_given}
+use Rattle.kit_file.specs.Names.{itself, var_name, group_name, update_name, name, is_given}
 use Rattle.kit_file.specs.Actions.{delay_of, tar_of, ner_of}
 use Rattle.kit_file.specs.Laws.{number_under}
 use Rattle.kit_file.specs.Ranges.{TakesNewNames, NumbersAreTaken, ListsAreTaken, NamesAreTaken}
@@ -84,15 +84,21 @@ ner_taken : (d : Data) (n : ℕ) → number (codes "ner") 1 100000 d ≡ Ok n �
 unfolding ner_of
 ner_taken d n is = goes_on (number (codes "ner") 1 100000 d) n (λ k. Ok (action.Ner k)) is
 
+-- the start of a range
+before_last : (n : ℕ) → n + 1 < 2 ^ 32 → n ≤ 2 ^ 32 - 2
+before_last n lt = omega arith
+
 -- a word is no more than the greatest one
 under : (n : ℕ) → n < 2 ^ 32 → n ≤ 2 ^ 32 - 1
 under n lt = omega arith
 
 pub numbers_are_taken : NumbersAreTaken
 numbers_are_taken = record {
-  version = λ d n said h. number_taken (codes "version") 1 2 d n said h.0 h.1;
+  version = λ d n said h. number_taken (codes "version") 1 3 d n said h.0 h.1;
   end = λ d n said h. number_taken (codes "end") 1 100000 d n said h.0 h.1;
   buffers = λ d n said h. number_taken (codes "buffers") 1 1024 d n said h.0 h.1;
+  from = λ d n said h. number_taken (codes "from") 0 (2 ^ 32 - 2) d n said (omega arith) (before_last n h);
+  to = λ from d n said h. number_taken (codes "to") (from + 1) (2 ^ 32 - 1) d n said (omega (arith, h.0)) (under n h.1);
   lookahead = λ d n said h. goes_on (number (codes "lookahead") 1 100000 d) n (λ k. Ok (Some k)) (number_taken (codes "lookahead") 1 100000 d n said h.0 h.1);
   tar_advance = λ ner d n said h. goes_on (number (codes "tar") 1 100000 d) n (λ k. Ok (wish.Tar k)) (number_taken (codes "tar") 1 100000 d n said h.0 h.1);
   ner_advance = λ d n said h. goes_on (number (codes "ner") 1 100000 d) n (λ k. Ok (wish.Ner k)) (number_taken (codes "ner") 1 100000 d n said h.0 h.1);
@@ -109,6 +115,9 @@ lists_are_taken = record {
   groups = λ d ds is h. optional_taken (codes "groups") 32 d ds is h;
   no_groups = λ d is. none_taken (codes "groups") 32 d is;
   members = λ d ds is h. list_taken (codes "members") 0 16 d ds is (omega arith) h;
+  subscribers = λ d ds is h. list_taken (codes "subscribers") 0 256 d ds is (omega arith) h;
+  regions = λ d ds is h. optional_taken (codes "regions") 32 d ds is h;
+  no_regions = λ d is. none_taken (codes "regions") 32 d is;
   vars = λ d ds is h. optional_taken (codes "vars") 8 d ds is h;
   no_vars = λ d is. none_taken (codes "vars") 8 d is;
   rules = λ d ds is h. optional_taken (codes "rules") 64 d ds is h;
@@ -147,4 +156,4 @@ new_taken : {X : Type 0} (name_of : X → List ℕ) → TakesNewNames name_of
 new_taken name_of done key s h = rw (none_given name_of done s h) refl
 
 pub names_are_taken : NamesAreTaken
-names_are_taken = record { form = name_taken; federates = new_taken itself; groups = new_taken group_name; vars = new_taken var_name }
+names_are_taken = record { form = name_taken; federates = new_taken itself; groups = new_taken group_name; regions = new_taken update_name; vars = new_taken var_name }

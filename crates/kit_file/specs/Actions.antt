@@ -4,7 +4,6 @@ use Rattle.serde_json.specs.Data.{Data}
 use Rattle.serde_json.specs.Find.{get}
 use Rattle.kit_rules.specs.Limits.{most_actions, most_time}
 use Rattle.kit_rules.specs.declared.table.Var.{Var}
-use Rattle.kit_rules.specs.declared.table.Group.{Group}
 use Rattle.kit_rules.specs.declared.table.Action.{Action}
 use Rattle.kit_rules.specs.declared.table.Action.TheVariants as action
 use Rattle.kit_file.specs.declared.fault.FaultKind.TheVariants as kind
@@ -12,7 +11,7 @@ use Rattle.kit_file.specs.declared.fault.Fault.{Fault}
 use Rattle.kit_file.specs.Paths.{key_path, item_path}
 use Rattle.kit_file.specs.Reading.{◌>>=◌, fault_at, within, guard, each}
 use Rattle.kit_file.specs.Places.{object, has, number, list}
-use Rattle.kit_file.specs.Names.{var_name, group_name, reference}
+use Rattle.kit_file.specs.Names.{itself, var_name, reference}
 use Rattle.kit_file.specs.Operands.{operand_of}
 use Rattle.kit_file.specs.Lookaheads.{needed_lookahead}
 
@@ -28,11 +27,11 @@ delay_of least d = do
   u ← guard (nat_le least delay) kind.SendTooSoon (key_path (codes "delay"))
   Ok delay
 
--- a message to a group, sent no sooner than the lookahead allows, of which there has to be one
-unfoldable pub send_of : List Group → List Var → Option ℕ → Data → Result Action Fault
-send_of groups vars lookahead d = do
+-- a message to one of these targets, groups or regions by their names, sent no sooner than the lookahead allows, of which there has to be one
+unfoldable pub send_of : List (List ℕ) → List Var → Option ℕ → Data → Result Action Fault
+send_of targets vars lookahead d = do
   least ← needed_lookahead (codes "send") lookahead
-  g ← reference group_name groups (codes "send") d
+  g ← reference itself targets (codes "send") d
   delay ← delay_of least d
   value ← operand_of (codes "value") vars d
   keep ← keep_of vars d (get (codes "keep") d)
@@ -83,21 +82,21 @@ unfoldable pub last_kinds_of : List Var → Option ℕ → Data → Result Actio
 last_kinds_of vars lookahead d = if has (codes "retract") d then retract_of vars lookahead d else (if has (codes "tar") d then tar_of d else (if has (codes "ner") d then ner_of d else fault_at kind.Missing []))
 
 -- an action: its kind is the first of the seven keys that it has
-unfoldable pub action_of : List Group → List Var → Option ℕ → Data → Result Action Fault
-action_of groups vars lookahead d = do
+unfoldable pub action_of : List (List ℕ) → List Var → Option ℕ → Data → Result Action Fault
+action_of targets vars lookahead d = do
   u ← object d
-  if has (codes "set") d then set_of vars d else (if has (codes "add") d then add_of vars d else (if has (codes "sub") d then sub_of vars d else (if has (codes "send") d then send_of groups vars lookahead d else last_kinds_of vars lookahead d)))
+  if has (codes "set") d then set_of vars d else (if has (codes "add") d then add_of vars d else (if has (codes "sub") d then sub_of vars d else (if has (codes "send") d then send_of targets vars lookahead d else last_kinds_of vars lookahead d)))
 
 -- one more action, the i-th of the list do
-unfoldable pub action_step : List Group → List Var → Option ℕ → ℕ → List Action → Data → Result (List Action) Fault
-action_step groups vars lookahead i done d = within (item_path (codes "do") i) (action_of groups vars lookahead d) >>= λ a. Ok (done ++ a ∷ [])
+unfoldable pub action_step : List (List ℕ) → List Var → Option ℕ → ℕ → List Action → Data → Result (List Action) Fault
+action_step targets vars lookahead i done d = within (item_path (codes "do") i) (action_of targets vars lookahead d) >>= λ a. Ok (done ++ a ∷ [])
 
 -- the members of the list do
 abbrev pub action_list_of : Data → Result (List Data) Fault
 action_list_of d = list (codes "do") 0 most_actions d
 
 -- the list do
-unfoldable pub actions_of : List Group → List Var → Option ℕ → Data → Result (List Action) Fault
-actions_of groups vars lookahead d = do
+unfoldable pub actions_of : List (List ℕ) → List Var → Option ℕ → Data → Result (List Action) Fault
+actions_of targets vars lookahead d = do
   ds ← action_list_of d
-  each (action_step groups vars lookahead) 0 [] ds
+  each (action_step targets vars lookahead) 0 [] ds

@@ -1,15 +1,16 @@
 -- What reading a file answers.
-use Rattle.std.specs.Prelude.{◌≡◌, ℕ, List, [], ◌∷◌, Some, None, Ok, Err, codes}
+use Rattle.std.specs.Prelude.{◌≡◌, ℕ, List, [], ◌∷◌, Option, Some, None, Ok, Err, codes}
 use Rattle.std.specs.Str.{IsUtf8}
 use Rattle.serde_json.specs.Data.{Data}
 use Rattle.serde_json.specs.Read.{read}
 use Rattle.kit_rules.specs.Parts.{Parts}
+use Rattle.kit_regions.specs.Plan.{Plan}
 use Rattle.kit_file.specs.declared.fault.FaultKind.{FaultKind}
 use Rattle.kit_file.specs.declared.fault.FaultKind.TheVariants as kind
 use Rattle.kit_file.specs.declared.fault.Fault.{Fault}
 use Rattle.kit_file.specs.declared.fault.FileFault.{FileFault}
 use Rattle.kit_file.specs.declared.fault.FileFault.TheVariants as file
-use Rattle.kit_file.specs.Walk.{walk}
+use Rattle.kit_file.specs.Walk.{walk, plan_walk}
 
 -- the path of the root is a point, and every other begins with none
 abbrev pub path_text : List ℕ → List ℕ
@@ -37,6 +38,10 @@ IsNoJson bytes = IsUtf8 bytes → read bytes ≡ None
 -- the bytes are a JSON text that the walk accepts, and this is its federation
 abbrev pub IsAccepted : List ℕ → Parts → Type 0
 IsAccepted bytes p = (d : Data) × Says bytes d × (walk d ≡ Ok p)
+
+-- the bytes are a JSON text that the walk accepts, and this is its plan, or it has none
+abbrev pub IsAcceptedPlan : List ℕ → Option Plan → Type 0
+IsAcceptedPlan bytes plan = (d : Data) × Says bytes d × (plan_walk d ≡ Ok plan)
 
 -- the bytes are a JSON text that the walk refuses, and this is its first fault
 abbrev pub IsFirstFault : List ℕ → FileFault → Type 0

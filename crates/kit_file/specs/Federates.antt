@@ -1,13 +1,13 @@
--- The federates in full, once the groups are known.
+-- The federates in full, once it is known what their rules may name.
 use Rattle.std.specs.Prelude.{ℕ, List, [], ◌∷◌, ◌++◌, Bool, true, false, Result, Ok, codes, slice_index_or}
 use Rattle.serde_json.specs.Data.{Data}
 use Rattle.kit_rules.specs.Limits.{most_time}
-use Rattle.kit_rules.specs.declared.table.Group.{Group}
 use Rattle.kit_rules.specs.declared.table.Federate.{Federate}
 use Rattle.kit_rules.specs.declared.table.Wish.{Wish}
 use Rattle.kit_rules.specs.declared.table.Wish.TheVariants as wish
 use Rattle.kit_file.specs.declared.fault.FaultKind.TheVariants as kind
 use Rattle.kit_file.specs.declared.fault.Fault.{Fault}
+use Rattle.kit_file.specs.declared.known.Known.{Known}
 use Rattle.kit_file.specs.Paths.{key_path, item_path}
 use Rattle.kit_file.specs.Reading.{◌>>=◌, fault_at, within, each}
 use Rattle.kit_file.specs.Places.{object, has, member, number}
@@ -34,18 +34,18 @@ advance_of d = do
   within (key_path (codes "advance")) (wish_of a)
 
 -- a federate of this name, in a file of this version: lookahead, advance, vars, rules
-unfoldable pub federate_of : ℕ → List Group → List ℕ → Data → Result Federate Fault
-federate_of version groups name d = do
+unfoldable pub federate_of : ℕ → Known → List ℕ → Data → Result Federate Fault
+federate_of version known name d = do
   lookahead ← lookahead_of version d
   advance ← advance_of d
   vars ← vars_of d
-  rules ← rules_of groups vars lookahead d
+  rules ← rules_of known vars lookahead d
   Ok (record { name = name; lookahead = lookahead; advance = advance; vars = vars; rules = rules })
 
 -- one more federate, the i-th of the list, with the i-th name
-unfoldable pub federate_step : ℕ → List (List ℕ) → List Group → ℕ → List Federate → Data → Result (List Federate) Fault
-federate_step version names groups i done d = within (item_path (codes "federates") i) (federate_of version groups (slice_index_or names i []) d) >>= λ f. Ok (done ++ f ∷ [])
+unfoldable pub federate_step : ℕ → List (List ℕ) → Known → ℕ → List Federate → Data → Result (List Federate) Fault
+federate_step version names known i done d = within (item_path (codes "federates") i) (federate_of version known (slice_index_or names i []) d) >>= λ f. Ok (done ++ f ∷ [])
 
 -- all federates in full
-unfoldable pub federates_of : ℕ → List (List ℕ) → List Group → List Data → Result (List Federate) Fault
-federates_of version names groups ds = each (federate_step version names groups) 0 [] ds
+unfoldable pub federates_of : ℕ → List (List ℕ) → Known → List Data → Result (List Federate) Fault
+federates_of version names known ds = each (federate_step version names known) 0 [] ds

@@ -3,7 +3,6 @@ pub mod Reading
 pub mod Agreement
 pub mod Places
 pub mod Names
-pub mod SoFar
 pub mod Variables
 pub mod Operands
 pub mod Lookaheads
@@ -11,6 +10,9 @@ pub mod Actions
 pub mod Rules
 pub mod FederateNames
 pub mod Groups
+pub mod Regions
+pub mod Subscribers
+pub mod SoFar
 pub mod Federates
 pub mod Walk
 pub mod Answers

@@ -4,6 +4,7 @@ use Rattle.std.specs.List.{list_any, position}
 use Rattle.serde_json.specs.Data.{Data}
 use Rattle.kit_rules.specs.declared.table.Var.{Var}
 use Rattle.kit_rules.specs.declared.table.Group.{Group}
+use Rattle.kit_regions.specs.declared.region.Update.{Update}
 use Rattle.kit_rules.specs.Names.{is_name}
 use Rattle.kit_file.specs.declared.fault.FaultKind.TheVariants as kind
 use Rattle.kit_file.specs.declared.fault.Fault.{Fault}
@@ -22,6 +23,10 @@ var_name v = v.name
 -- the name of a group
 abbrev pub group_name : Group → List ℕ
 group_name g = g.name
+
+-- the name of an update region
+abbrev pub update_name : Update → List ℕ
+update_name u = u.name
 
 -- a text of the form of a name
 unfoldable pub name : List ℕ → Data → Result (List ℕ) Fault

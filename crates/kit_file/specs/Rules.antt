@@ -4,7 +4,6 @@ use Rattle.serde_json.specs.Data.{Data}
 use Rattle.serde_json.specs.Find.{get, as_str}
 use Rattle.kit_rules.specs.Limits.{most_conds, most_rules}
 use Rattle.kit_rules.specs.declared.table.Var.{Var}
-use Rattle.kit_rules.specs.declared.table.Group.{Group}
 use Rattle.kit_rules.specs.declared.table.Compare.{Compare}
 use Rattle.kit_rules.specs.declared.table.Compare.TheVariants as compare
 use Rattle.kit_rules.specs.declared.table.Cond.{Cond}
@@ -13,10 +12,11 @@ use Rattle.kit_rules.specs.declared.table.Trigger.TheVariants as trigger
 use Rattle.kit_rules.specs.declared.table.Rule.{Rule}
 use Rattle.kit_file.specs.declared.fault.FaultKind.TheVariants as kind
 use Rattle.kit_file.specs.declared.fault.Fault.{Fault}
+use Rattle.kit_file.specs.declared.known.Known.{Known}
 use Rattle.kit_file.specs.Paths.{key_path, item_path}
 use Rattle.kit_file.specs.Reading.{◌>>=◌, fault_at, within, or_fault, each}
 use Rattle.kit_file.specs.Places.{object, member, text, is_same, optional_list}
-use Rattle.kit_file.specs.Names.{group_name, reference}
+use Rattle.kit_file.specs.Names.{itself, reference}
 use Rattle.kit_file.specs.Operands.{operand_of}
 use Rattle.kit_file.specs.Actions.{actions_of}
 
@@ -54,42 +54,42 @@ conds_of vars d = do
   each (cond_step vars) 0 [] ds
 
 -- on a message to this group
-unfoldable pub got_of : List Group → Data → Result Trigger Fault
+unfoldable pub got_of : List (List ℕ) → Data → Result Trigger Fault
 got_of groups d = do
   u ← object d
-  g ← reference group_name groups (codes "got") d
+  g ← reference itself groups (codes "got") d
   Ok (trigger.Got g)
 
 -- at the start, on a grant, or on a message
-abbrev pub trigger_from : List Group → Data → Option (List ℕ) → Result Trigger Fault
+abbrev pub trigger_from : List (List ℕ) → Data → Option (List ℕ) → Result Trigger Fault
 trigger_from groups v (Some s) = if is_same s (codes "start") then Ok trigger.Start else (if is_same s (codes "grant") then Ok trigger.Grant else fault_at kind.UnknownName (key_path (codes "on")))
 trigger_from groups v None = within (key_path (codes "on")) (got_of groups v)
 
 -- when a rule runs
-unfoldable pub trigger_of : List Group → Data → Result Trigger Fault
+unfoldable pub trigger_of : List (List ℕ) → Data → Result Trigger Fault
 trigger_of groups d = do
   v ← member (codes "on") d
   trigger_from groups v (as_str v)
 
--- a rule: on, if, do
-unfoldable pub rule_of : List Group → List Var → Option ℕ → Data → Result Rule Fault
-rule_of groups vars lookahead d = do
+-- a rule: on, if, do, where these groups and targets are known
+unfoldable pub rule_of : Known → List Var → Option ℕ → Data → Result Rule Fault
+rule_of known vars lookahead d = do
   u ← object d
-  on ← trigger_of groups d
+  on ← trigger_of known.groups d
   conds ← conds_of vars d
-  actions ← actions_of groups vars lookahead d
+  actions ← actions_of known.targets vars lookahead d
   Ok (record { on = on; conds = conds; actions = actions })
 
 -- one more rule, the i-th of the list rules
-unfoldable pub rule_step : List Group → List Var → Option ℕ → ℕ → List Rule → Data → Result (List Rule) Fault
-rule_step groups vars lookahead i done d = within (item_path (codes "rules") i) (rule_of groups vars lookahead d) >>= λ r. Ok (done ++ r ∷ [])
+unfoldable pub rule_step : Known → List Var → Option ℕ → ℕ → List Rule → Data → Result (List Rule) Fault
+rule_step known vars lookahead i done d = within (item_path (codes "rules") i) (rule_of known vars lookahead d) >>= λ r. Ok (done ++ r ∷ [])
 
 -- the members of the list rules, which may be absent
 abbrev pub rule_list_of : Data → Result (List Data) Fault
 rule_list_of d = optional_list (codes "rules") most_rules (get (codes "rules") d)
 
 -- the list rules
-unfoldable pub rules_of : List Group → List Var → Option ℕ → Data → Result (List Rule) Fault
-rules_of groups vars lookahead d = do
+unfoldable pub rules_of : Known → List Var → Option ℕ → Data → Result (List Rule) Fault
+rules_of known vars lookahead d = do
   ds ← rule_list_of d
-  each (rule_step groups vars lookahead) 0 [] ds
+  each (rule_step known vars lookahead) 0 [] ds

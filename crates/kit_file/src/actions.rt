@@ -5,7 +5,8 @@ ghost use Rattle.std.specs.Prelude.{IfOk, OnOk, All};
 ghost use Rattle.serde_json.specs.View.{view};
 ghost use Rattle.serde_json.specs.Find.{get};
 ghost use Rattle.kit_rules.specs.Federation.{IsAction};
-ghost use Rattle.kit_rules.specs.Limits.{most_actions, most_groups, most_vars};
+ghost use Rattle.kit_rules.specs.Limits.{most_actions, most_vars};
+ghost use Rattle.kit_regions.specs.Limits.{most_updates};
 ghost use Rattle.kit_file.specs.Agreement.{Gives};
 ghost use Rattle.kit_file.specs.Actions.{set_of, add_of, sub_of, retract_of, tar_of, ner_of};
 ghost use Rattle.kit_file.specs.Actions.{last_kinds_of, action_of, action_step, actions_of};
@@ -17,7 +18,7 @@ use crate::operands::operand_at;
 use crate::places::{list_at, number_at, object_here};
 use crate::sends::send_in;
 use kit_base::Items;
-use kit_rules::{Action, Group, MOST_ACTIONS, MOST_TIME, Var};
+use kit_rules::{Action, MOST_ACTIONS, MOST_TIME, Name, Var};
 use serde_json::Value;
 use std::alloc::Global;
 
@@ -121,16 +122,16 @@ fn last_kinds_in(
 #[tactic(auto, unfolding(crate::specs::Actions::action_of))]
 fn action_in(
     alloc: Global,
-    groups: &[Group],
+    targets: &[Name],
     vars: &[Var],
     lookahead: Option<u32>,
     value: &Value,
 ) -> Result<Action, WalkEnd>
-    requires groups { length groups.now ≤ most_groups }
+    requires targets { length targets.now ≤ most_updates }
     requires vars { length vars.now ≤ most_vars }
     ensures exact { Gives (λ a. a) result
-        (action_of groups.now vars.now lookahead (view value.now)) }
-    ensures sound { IfOk result (λ a. IsAction (length groups.now) (length vars.now) lookahead a) }
+        (action_of targets.now vars.now lookahead (view value.now)) }
+    ensures sound { IfOk result (λ a. IsAction (length targets.now) (length vars.now) lookahead a) }
 {
     object_here(alloc, value)?;
     if value.get("set").is_some() {
@@ -143,7 +144,7 @@ fn action_in(
         return sub_in(alloc, vars, value);
     }
     if value.get("send").is_some() {
-        return send_in(alloc, groups, vars, lookahead, value);
+        return send_in(alloc, targets, vars, lookahead, value);
     }
     last_kinds_in(alloc, vars, lookahead, value)
 }
@@ -151,23 +152,23 @@ fn action_in(
 #[tactic(auto, using(crate::proofs::Ends::fails_before, crate::proofs::Pushes::all_and_one), unfolding(crate::specs::Actions::action_step))]
 fn push_action(
     alloc: Global,
-    groups: &[Group],
+    targets: &[Name],
     vars: &[Var],
     lookahead: Option<u32>,
     i: usize,
     done: &mut Items<Action>,
     value: &Value,
 ) -> Result<(), WalkEnd>
-    requires groups { length groups.now ≤ most_groups }
+    requires targets { length targets.now ≤ most_updates }
     requires vars { length vars.now ≤ most_vars }
-    requires kept { All (IsAction (length groups.now) (length vars.now) lookahead) done.old }
+    requires kept { All (IsAction (length targets.now) (length vars.now) lookahead) done.old }
     ensures exact { Gives (λ _. done.new) result
-        (action_step groups.now vars.now lookahead i done.old (view value.now)) }
+        (action_step targets.now vars.now lookahead i done.old (view value.now)) }
     ensures kept { OnOk result
-        (All (IsAction (length groups.now) (length vars.now) lookahead) done.new) }
+        (All (IsAction (length targets.now) (length vars.now) lookahead) done.new) }
     ensures count { OnOk result (length done.new ≡ length done.old + 1) }
 {
-    match action_in(alloc, groups, vars, lookahead, value) {
+    match action_in(alloc, targets, vars, lookahead, value) {
         Ok(one) => {
             done.push(one)?;
             Ok(())
@@ -179,23 +180,23 @@ fn push_action(
 #[tactic(auto, using(crate::proofs::Pushes::all_of_none), unfolding(crate::specs::Actions::actions_of))]
 pub(crate) fn actions_in(
     alloc: Global,
-    groups: &[Group],
+    targets: &[Name],
     vars: &[Var],
     lookahead: Option<u32>,
     value: &Value,
 ) -> Result<Items<Action>, WalkEnd>
-    requires groups { length groups.now ≤ most_groups }
+    requires targets { length targets.now ≤ most_updates }
     requires vars { length vars.now ≤ most_vars }
     ensures exact { Gives (λ v. v) result
-        (actions_of groups.now vars.now lookahead (view value.now)) }
+        (actions_of targets.now vars.now lookahead (view value.now)) }
     ensures few { IfOk result (λ v. length v ≤ most_actions) }
     ensures sound { IfOk result
-        (λ v. All (IsAction (length groups.now) (length vars.now) lookahead) v) }
+        (λ v. All (IsAction (length targets.now) (length vars.now) lookahead) v) }
 {
     let items = list_at(alloc, value, "do", 0, MOST_ACTIONS)?;
     let mut done = Items::new(alloc);
     for (i, item) in items.iter().enumerate() {
-        push_action(alloc, groups, vars, lookahead, i, &mut done, item)?;
+        push_action(alloc, targets, vars, lookahead, i, &mut done, item)?;
     }
     Ok(done)
 }

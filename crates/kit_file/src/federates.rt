@@ -1,26 +1,28 @@
-//! The federates in full, once the groups are known.
+//! The federates in full, once it is known what their rules may name.
 
 ghost use Rattle.std.specs.Prelude.{◌≡◌, ◌+◌, IfOk, OnOk, ◌<◌, ◌≤◌, ◌++◌, ◌∷◌, [], codes, map};
 ghost use Rattle.std.specs.Prelude.{length, slice_index_or};
 ghost use Rattle.serde_json.specs.View.{view};
-ghost use Rattle.kit_rules.specs.Limits.{most_federates, most_groups};
+ghost use Rattle.kit_rules.specs.Limits.{most_federates};
 ghost use Rattle.kit_file.specs.Agreement.{Gives};
 ghost use Rattle.kit_file.specs.Reading.{within};
-ghost use Rattle.kit_file.specs.SoFar.{AreNames, AreFederatesSoFar};
+ghost use Rattle.kit_file.specs.SoFar.{AreNames, AreKnown, AreFederatesSoFar};
 ghost use Rattle.kit_file.specs.Names.{itself};
 ghost use Rattle.kit_file.specs.Federates.{wish_of, advance_of, federate_of, federate_step};
 ghost use Rattle.kit_file.specs.Federates.{federates_of};
 ghost use Rattle.kit_file.specs.Paths.{item_path};
 ghost use Rattle.kit_rules.specs.Names.{IsName};
-ghost use Rattle.kit_rules.specs.Federation.{IsWish, IsFederate, AreFederates};
+ghost use Rattle.kit_rules.specs.Federation.{IsWish};
+ghost use Rattle.kit_regions.specs.Limits.{IsPlannedFederate, ArePlannedFederates};
 
 use crate::fault::{Fault, FaultKind, WalkEnd};
+use crate::known::Known;
 use crate::lookaheads::lookahead_at;
 use crate::places::{member_at, number_at, object_here};
 use crate::rules::rules_in;
 use crate::variables::vars_in;
 use kit_base::Items;
-use kit_rules::{Federate, Group, MOST_TIME, Name, Wish};
+use kit_rules::{Federate, MOST_TIME, Name, Wish};
 use serde_json::Value;
 use std::alloc::Global;
 
@@ -57,21 +59,22 @@ fn advance_in(alloc: Global, value: &Value) -> Result<Wish, WalkEnd>
 fn federate_in(
     alloc: Global,
     version: u64,
-    groups: &[Group],
+    known: &Known,
     name: &Name,
     value: &Value,
 ) -> Result<Federate, WalkEnd>
     requires form { IsName name.now }
-    requires few { length groups.now ≤ most_groups }
+    requires few { AreKnown known.now }
     ensures exact { Gives (λ f. f) result
-        (federate_of version groups.now name.now (view value.now)) }
-    ensures sound { IfOk result (λ f. IsFederate (length groups.now) f) }
+        (federate_of version known.now name.now (view value.now)) }
+    ensures sound { IfOk result (λ f. IsPlannedFederate
+        (length known.now.groups) (length known.now.targets) f) }
     ensures called { IfOk result (λ f. f.name ≡ name.now) }
 {
     let lookahead = lookahead_at(alloc, version, value)?;
     let advance = advance_in(alloc, value)?;
     let vars = vars_in(alloc, value)?;
-    let rules = rules_in(alloc, groups, vars.as_slice(), lookahead, value)?;
+    let rules = rules_in(alloc, known, vars.as_slice(), lookahead, value)?;
     Ok(Federate {
         name: Name::of(alloc, name.bytes())?,
         lookahead,
@@ -86,22 +89,24 @@ fn push_federate(
     alloc: Global,
     version: u64,
     names: &[Name],
-    groups: &[Group],
+    known: &Known,
     i: usize,
     done: &mut Items<Federate>,
     value: &Value,
 ) -> Result<(), WalkEnd>
-    requires few { length groups.now ≤ most_groups }
+    requires few { AreKnown known.now }
     requires here { i < length names.now }
     requires given { AreNames itself names.now }
     requires count { length done.old ≡ i }
-    requires kept { AreFederatesSoFar (length groups.now) names.now done.old }
-    ensures kept { OnOk result (AreFederatesSoFar (length groups.now) names.now done.new) }
+    requires kept { AreFederatesSoFar (length known.now.groups)
+        (length known.now.targets) names.now done.old }
+    ensures kept { OnOk result (AreFederatesSoFar (length known.now.groups)
+        (length known.now.targets) names.now done.new) }
     ensures count { OnOk result (length done.new ≡ length done.old + 1) }
     ensures exact { Gives (λ _. done.new) result
-        (federate_step version names.now groups.now i done.old (view value.now)) }
+        (federate_step version names.now known.now i done.old (view value.now)) }
 {
-    match federate_in(alloc, version, groups, &names[i], value) {
+    match federate_in(alloc, version, known, &names[i], value) {
         Ok(federate) => {
             done.push(federate)?;
             Ok(())
@@ -115,22 +120,23 @@ pub(crate) fn federates_in(
     alloc: Global,
     version: u64,
     names: &[Name],
-    groups: &[Group],
+    known: &Known,
     items: &[Value],
 ) -> Result<Items<Federate>, WalkEnd>
-    requires few { length groups.now ≤ most_groups }
+    requires few { AreKnown known.now }
     requires count { length names.now ≡ length items.now }
     requires low { 1 ≤ length names.now }
     requires high { length names.now ≤ most_federates }
     requires given { AreNames itself names.now }
-    ensures sound { IfOk result (λ v. AreFederates (length groups.now) v) }
+    ensures sound { IfOk result (λ v. ArePlannedFederates
+        (length known.now.groups) (length known.now.targets) v) }
     ensures count { IfOk result (λ v. length v ≡ length names.now) }
     ensures exact { Gives (λ v. v) result
-        (federates_of version names.now groups.now (map view items.now)) }
+        (federates_of version names.now known.now (map view items.now)) }
 {
     let mut done = Items::new(alloc);
     for (i, item) in items.iter().enumerate() {
-        push_federate(alloc, version, names, groups, i, &mut done, item)?;
+        push_federate(alloc, version, names, known, i, &mut done, item)?;
     }
     Ok(done)
 }

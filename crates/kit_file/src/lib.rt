@@ -1,24 +1,32 @@
-//! The reader of a federation file: JSON bytes to a federation, or the first fault and its place.
+//! The reader of a federation file: JSON bytes to a federation, and to the plan that it
+//! is lowered from where it has regions, or the first fault and its place.
 #![tactic(auto)]
 
 mod actions;
+mod content;
 mod fault;
 mod federate_names;
 mod federates;
 mod groups;
+mod known;
 mod laws;
 mod lookaheads;
 mod names;
 mod operands;
 mod places;
+mod plans;
 mod reading;
+mod regions;
 mod rules;
 mod sends;
+mod subscribers;
 mod variables;
 
 pub use fault::{FaultPath, FileFault};
-pub use laws::{keys_mean, places_take_their_range};
-pub use reading::read_federation;
+pub use laws::{keys_mean, places_take_their_range, plans_mean};
+pub use reading::{read_federation, read_plan};
 
+#[cfg(test)]
+mod plan_tests;
 #[cfg(test)]
 mod tests;

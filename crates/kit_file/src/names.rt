@@ -1,7 +1,7 @@
 //! Names: where one is given, and where one is referred to.
 
-ghost use Rattle.std.specs.Prelude.{◌≡◌, ◌≢◌, ◌<◌, ◌≤◌, ◌⊎◌, List, ℕ, codes, length, IfSome, IfOk};
-ghost use Rattle.std.specs.Prelude.{IsTrue, All};
+ghost use Rattle.std.specs.Prelude.{◌≡◌, ◌≢◌, ◌<◌, ◌≤◌, ◌⊎◌, List, ℕ, codes, length, map, IfSome};
+ghost use Rattle.std.specs.Prelude.{IfOk, IsTrue, All};
 ghost use Rattle.serde_json.specs.View.{view};
 ghost use Rattle.kit_rules.specs.Names.{IsName};
 ghost use Rattle.kit_file.specs.SoFar.{IsNewName};
@@ -10,9 +10,10 @@ ghost use Rattle.kit_file.specs.Agreement.{Gives};
 
 use crate::fault::{Fault, FaultKind, WalkEnd};
 use crate::places::text_at;
-use kit_rules::{Named, is_name};
+use kit_base::Items;
+use kit_rules::{Name, Named, is_name};
 use serde_json::Value;
-use std::alloc::Global;
+use std::alloc::{AllocError, Global};
 
 fn is_among<T: Named>(done: &[T], s: &str) -> bool
     ensures value { result ≡ is_given T.name_of done.now s.now }
@@ -91,4 +92,15 @@ pub(crate) fn reference_at<T: Named>(
         Some(j) => Ok(j as u8),
         None => Err(WalkEnd::Fault(Fault::at_key(alloc, FaultKind::UnknownName, key)?)),
     }
+}
+
+/// Copies of the names of these.
+pub(crate) fn names_of<T: Named>(alloc: Global, items: &[T]) -> Result<Items<Name>, AllocError>
+    ensures { IfOk result (λ names. names ≡ map T.name_of items.now) }
+{
+    let mut names = Items::new(alloc);
+    for item in items {
+        names.push(Name::of(alloc, item.name().bytes())?)?;
+    }
+    Ok(names)
 }

@@ -4,20 +4,23 @@ ghost use Rattle.std.specs.Prelude.{◌≡◌, ◌+◌, ◌<◌, ◌≤◌, ℕ,
 ghost use Rattle.std.specs.Prelude.{All};
 ghost use Rattle.serde_json.specs.View.{view};
 ghost use Rattle.serde_json.specs.Find.{get};
-ghost use Rattle.kit_rules.specs.Federation.{IsAction, IsCond, IsTrigger, IsRule};
+ghost use Rattle.kit_rules.specs.Federation.{IsAction, IsCond, IsTrigger};
 ghost use Rattle.kit_rules.specs.Limits.{most_conds, most_groups, most_rules, most_vars};
+ghost use Rattle.kit_regions.specs.Limits.{IsPlannedRule};
 ghost use Rattle.kit_file.specs.Agreement.{Gives};
+ghost use Rattle.kit_file.specs.SoFar.{AreKnown};
 ghost use Rattle.kit_file.specs.Reading.{within};
 ghost use Rattle.kit_file.specs.Rules.{named_comparison, comparison_of, cond_of, cond_step};
 ghost use Rattle.kit_file.specs.Rules.{conds_of, got_of, trigger_of, rule_of, rule_step, rules_of};
 
 use crate::actions::actions_in;
 use crate::fault::{Fault, FaultKind, WalkEnd};
+use crate::known::Known;
 use crate::names::reference_at;
 use crate::operands::operand_at;
 use crate::places::{are_same, member_at, object_here, optional_list_at, text_at};
 use kit_base::Items;
-use kit_rules::{Compare, Cond, Group, MOST_CONDS, MOST_RULES, Rule, Trigger, Var};
+use kit_rules::{Compare, Cond, MOST_CONDS, MOST_RULES, Name, Rule, Trigger, Var};
 use serde_json::Value;
 use std::alloc::Global;
 
@@ -109,7 +112,7 @@ pub(crate) fn conds_in(alloc: Global, vars: &[Var], value: &Value) -> Result<Ite
 }
 
 #[tactic(auto, unfolding(crate::specs::Rules::got_of))]
-fn got_in(alloc: Global, groups: &[Group], value: &Value) -> Result<Trigger, WalkEnd>
+fn got_in(alloc: Global, groups: &[Name], value: &Value) -> Result<Trigger, WalkEnd>
     requires { length groups.now ≤ most_groups }
     ensures exact { Gives (λ t. t) result (got_of groups.now (view value.now)) }
     ensures sound { IfOk result (λ t. IsTrigger (length groups.now) t) }
@@ -120,7 +123,7 @@ fn got_in(alloc: Global, groups: &[Group], value: &Value) -> Result<Trigger, Wal
 }
 
 #[tactic(auto, using(crate::proofs::Ends::fails_within), unfolding(crate::specs::Rules::trigger_of))]
-fn trigger_at(alloc: Global, groups: &[Group], value: &Value) -> Result<Trigger, WalkEnd>
+fn trigger_at(alloc: Global, groups: &[Name], value: &Value) -> Result<Trigger, WalkEnd>
     requires { length groups.now ≤ most_groups }
     ensures exact { Gives (λ t. t) result (trigger_of groups.now (view value.now)) }
     ensures sound { IfOk result (λ t. IsTrigger (length groups.now) t) }
@@ -144,43 +147,46 @@ fn trigger_at(alloc: Global, groups: &[Group], value: &Value) -> Result<Trigger,
 #[tactic(auto, unfolding(crate::specs::Rules::rule_of))]
 fn rule_in(
     alloc: Global,
-    groups: &[Group],
+    known: &Known,
     vars: &[Var],
     lookahead: Option<u32>,
     value: &Value,
 ) -> Result<Rule, WalkEnd>
-    requires groups { length groups.now ≤ most_groups }
+    requires known { AreKnown known.now }
     requires vars { length vars.now ≤ most_vars }
-    ensures exact { Gives (λ r. r) result (rule_of groups.now vars.now lookahead (view value.now)) }
-    ensures sound { IfOk result (λ r. IsRule (length groups.now) (length vars.now) lookahead r) }
+    ensures exact { Gives (λ r. r) result (rule_of known.now vars.now lookahead (view value.now)) }
+    ensures sound { IfOk result (λ r. IsPlannedRule (length known.now.groups)
+        (length known.now.targets) (length vars.now) lookahead r) }
 {
     object_here(alloc, value)?;
-    let on = trigger_at(alloc, groups, value)?;
+    let on = trigger_at(alloc, known.groups.as_slice(), value)?;
     let conds = conds_in(alloc, vars, value)?;
-    let actions = actions_in(alloc, groups, vars, lookahead, value)?;
+    let actions = actions_in(alloc, known.targets.as_slice(), vars, lookahead, value)?;
     Ok(Rule { on, conds, actions })
 }
 
 #[tactic(auto, using(crate::proofs::Ends::fails_before, crate::proofs::Pushes::all_and_one), unfolding(crate::specs::Rules::rule_step))]
 fn push_rule(
     alloc: Global,
-    groups: &[Group],
+    known: &Known,
     vars: &[Var],
     lookahead: Option<u32>,
     i: usize,
     done: &mut Items<Rule>,
     value: &Value,
 ) -> Result<(), WalkEnd>
-    requires groups { length groups.now ≤ most_groups }
+    requires known { AreKnown known.now }
     requires vars { length vars.now ≤ most_vars }
-    requires kept { All (IsRule (length groups.now) (length vars.now) lookahead) done.old }
+    requires kept { All (IsPlannedRule (length known.now.groups) (length known.now.targets)
+        (length vars.now) lookahead) done.old }
     ensures exact { Gives (λ _. done.new) result
-        (rule_step groups.now vars.now lookahead i done.old (view value.now)) }
+        (rule_step known.now vars.now lookahead i done.old (view value.now)) }
     ensures kept { OnOk result
-        (All (IsRule (length groups.now) (length vars.now) lookahead) done.new) }
+        (All (IsPlannedRule (length known.now.groups) (length known.now.targets)
+        (length vars.now) lookahead) done.new) }
     ensures count { OnOk result (length done.new ≡ length done.old + 1) }
 {
-    match rule_in(alloc, groups, vars, lookahead, value) {
+    match rule_in(alloc, known, vars, lookahead, value) {
         Ok(one) => {
             done.push(one)?;
             Ok(())
@@ -192,23 +198,24 @@ fn push_rule(
 #[tactic(auto, using(crate::proofs::Pushes::all_of_none), unfolding(crate::specs::Rules::rules_of))]
 pub(crate) fn rules_in(
     alloc: Global,
-    groups: &[Group],
+    known: &Known,
     vars: &[Var],
     lookahead: Option<u32>,
     value: &Value,
 ) -> Result<Items<Rule>, WalkEnd>
-    requires groups { length groups.now ≤ most_groups }
+    requires known { AreKnown known.now }
     requires vars { length vars.now ≤ most_vars }
     ensures exact { Gives (λ v. v) result
-        (rules_of groups.now vars.now lookahead (view value.now)) }
+        (rules_of known.now vars.now lookahead (view value.now)) }
     ensures few { IfOk result (λ v. length v ≤ most_rules) }
     ensures sound { IfOk result
-        (λ v. All (IsRule (length groups.now) (length vars.now) lookahead) v) }
+        (λ v. All (IsPlannedRule (length known.now.groups) (length known.now.targets)
+        (length vars.now) lookahead) v) }
 {
     let items = optional_list_at(alloc, value, "rules", MOST_RULES)?;
     let mut done = Items::new(alloc);
     for (i, item) in items.iter().enumerate() {
-        push_rule(alloc, groups, vars, lookahead, i, &mut done, item)?;
+        push_rule(alloc, known, vars, lookahead, i, &mut done, item)?;
     }
     Ok(done)
 }

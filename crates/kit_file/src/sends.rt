@@ -1,9 +1,10 @@
 //! The places of an action that sends.
 
 ghost use Rattle.std.specs.Prelude.{◌≡◌, ◌<◌, ◌≤◌, codes, length, IfOk, IfSome};
-ghost use Rattle.kit_rules.specs.Limits.{most_groups, most_time, most_vars};
+ghost use Rattle.kit_rules.specs.Limits.{most_time, most_vars};
 ghost use Rattle.kit_file.specs.Agreement.{Gives};
-ghost use Rattle.kit_file.specs.Names.{var_name, reference};
+ghost use Rattle.kit_file.specs.Names.{itself, var_name, reference};
+ghost use Rattle.kit_regions.specs.Limits.{most_updates};
 ghost use Rattle.kit_file.specs.Operands.{operand_of};
 ghost use Rattle.kit_file.specs.Actions.{keep_of, delay_of, send_of};
 ghost use Rattle.serde_json.specs.View.{view};
@@ -15,7 +16,7 @@ use crate::lookaheads::needed_at;
 use crate::names::reference_at;
 use crate::operands::operand_at;
 use crate::places::number_at;
-use kit_rules::{Action, Group, MOST_TIME, Var};
+use kit_rules::{Action, MOST_TIME, Name, Var};
 use serde_json::Value;
 use std::alloc::Global;
 
@@ -48,18 +49,19 @@ fn delay_at(alloc: Global, value: &Value, least: u32) -> Result<u32, WalkEnd>
 #[tactic(auto, unfolding(crate::specs::Actions::send_of))]
 pub(crate) fn send_in(
     alloc: Global,
-    groups: &[Group],
+    targets: &[Name],
     vars: &[Var],
     lookahead: Option<u32>,
     value: &Value,
 ) -> Result<Action, WalkEnd>
-    requires groups { length groups.now ≤ most_groups }
+    requires targets { length targets.now ≤ most_updates }
     requires vars { length vars.now ≤ most_vars }
-    ensures exact { Gives (λ a. a) result (send_of groups.now vars.now lookahead (view value.now)) }
-    ensures sound { IfOk result (λ a. IsAction (length groups.now) (length vars.now) lookahead a) }
+    ensures exact { Gives (λ a. a) result
+        (send_of targets.now vars.now lookahead (view value.now)) }
+    ensures sound { IfOk result (λ a. IsAction (length targets.now) (length vars.now) lookahead a) }
 {
     let least = needed_at(alloc, lookahead, "send")?;
-    let group = reference_at(alloc, value, "send", groups)?;
+    let group = reference_at(alloc, value, "send", targets)?;
     let delay = delay_at(alloc, value, least)?;
     let operand = operand_at(alloc, value, "value", vars)?;
     let keep = keep_at(alloc, value, vars)?;

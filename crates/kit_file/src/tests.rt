@@ -1,10 +1,9 @@
 use super::*;
-use kit_rules::Federation;
 use std::alloc::{AllocError, Global};
 use std::test::*;
 
 /// The text as bytes, with a double quote for each single one.
-fn quoted(alloc: Global, text: &str) -> Result<Vec<u8>, AllocError> {
+pub(crate) fn quoted(alloc: Global, text: &str) -> Result<Vec<u8>, AllocError> {
     let mut bytes = Vec::new(alloc);
     for byte in text.as_bytes() {
         bytes.push(if *byte == b'\'' { b'"' } else { *byte })?;
@@ -49,7 +48,7 @@ fn is_at(at: &FaultPath, path: &str) -> bool {
 }
 
 /// Whether the answer is of this variant and at this path.
-fn is_answer(answer: &Result<Federation, FileFault>, variant: &str, path: &str) -> bool {
+pub(crate) fn is_answer<T>(answer: &Result<T, FileFault>, variant: &str, path: &str) -> bool {
     match answer {
         Ok(_) => variant == "Ok",
         Err(FileFault::NotJson) => variant == "NotJson",
@@ -91,9 +90,9 @@ fn places_of_the_root(rt: HostRuntime) -> Result<(), Fail> {
         ("[]", "WrongKind", "."),
         ("{}", "Missing", "version"),
         ("{'version':0}", "OutOfRange", "version"),
-        ("{'version':3}", "OutOfRange", "version"),
-        ("{'version':2}", "Missing", "end"),
-        ("{'version':3,'version':1}", "Missing", "end"),
+        ("{'version':4}", "OutOfRange", "version"),
+        ("{'version':3}", "Missing", "end"),
+        ("{'version':4,'version':1}", "Missing", "end"),
         ("{'version':1,'end':0}", "OutOfRange", "end"),
         ("{'version':1,'end':3.5}", "WrongKind", "end"),
         ("{'version':1,'end':-0}", "WrongKind", "end"),

@@ -9,7 +9,7 @@ use Rattle.kit_file.proofs.actions.actions_in.Given as goal
 
 abbrev pub invariant-loop-i : goal.invariant-loop-i
 invariant-loop-i l = record {
-  so_far : rest (action_step l.groups l.vars l.lookahead) l.i l.done l.items ≡ each (action_step l.groups l.vars l.lookahead) 0 [] (map view l.items);
-  kept : All (IsAction (length l.groups) (length l.vars) l.lookahead) l.done;
+  so_far : rest (action_step l.targets l.vars l.lookahead) l.i l.done l.items ≡ each (action_step l.targets l.vars l.lookahead) 0 [] (map view l.items);
+  kept : All (IsAction (length l.targets) (length l.vars) l.lookahead) l.done;
   count : length l.done ≡ l.i;
 }

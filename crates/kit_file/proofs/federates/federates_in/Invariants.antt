@@ -8,7 +8,7 @@ use Rattle.kit_file.proofs.federates.federates_in.Given as goal
 
 abbrev pub invariant-loop-i : goal.invariant-loop-i
 invariant-loop-i l = record {
-  so_far : rest (federate_step l.version l.names l.groups) l.i l.done l.items ≡ each (federate_step l.version l.names l.groups) 0 [] (map view l.items);
-  kept : AreFederatesSoFar (length l.groups) l.names l.done;
+  so_far : rest (federate_step l.version l.names l.known) l.i l.done l.items ≡ each (federate_step l.version l.names l.known) 0 [] (map view l.items);
+  kept : AreFederatesSoFar (length l.known.groups) (length l.known.targets) l.names l.done;
   count : length l.done ≡ l.i;
 }
