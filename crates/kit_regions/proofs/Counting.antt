@@ -1,5 +1,5 @@
--- How many rules a rule becomes, and which federate's are the first to be too many.
-use Rattle.std.proofs.Common.{◌≡◌, ◌≢◌, ℕ, zero, suc, ◌+◌, ◌<◌, ◌≤◌, Bool, true, false, nat_eq, nat_lt, refl, sym, ap, ◌∙◌, cond, List, [], ◌∷◌, length, get_or, map, filter, count_by, arith}
+-- How many rules a rule becomes.
+use Rattle.std.proofs.Common.{◌≡◌, ℕ, suc, ◌+◌, ◌<◌, Bool, true, false, nat_eq, refl, ap, ◌∙◌, cond, List, [], ◌∷◌, length, get_or, map, filter, count_by, arith}
 use Rattle.std.specs.List.{range_with_len}
 use Rattle.std.proofs.lemmas.List.{length-map}
 use Rattle.std.proofs.lemmas.List.Sums.{length-filter}

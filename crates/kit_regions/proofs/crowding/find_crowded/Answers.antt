@@ -1,7 +1,6 @@
 use Rattle.std.proofs.Common.{◌≡◌, ◌∙◌, ◌<◌, ℕ, Bool, true, false, length, sym, ap, arith, slice_index_or}
 use Rattle.std.proofs.lemmas.Bool.{lt-ltb, le-ltb}
 use Rattle.std.proofs.lemmas.List.{get_or_default}
-use Rattle.kit_rules.specs.declared.table.Federate.{Federate}
 use Rattle.kit_rules.specs.Parts.{nobody}
 use Rattle.kit_regions.specs.Lowered.{lowered_rules, is_crowded}
 use Rattle.kit_regions.proofs.Growing.{found_first, none_yet}
