@@ -15,7 +15,8 @@ use Rattle.kit_replay.specs.Reports.{turns_in}
 use Rattle.kit_replay.specs.Schedules.{AreTaken, FollowsSchedule, GivenTurn, entries_below, is_below, is_turn_of, turns_of, whose}
 use Rattle.kit_replay.specs.Replays.{IsReplay, IsReplayed, LbtsFloor}
 use Rattle.kit_top.specs.Causes.{CanTell, HasBuffers, IsNamed, IsRunOf, Run, most_rounds}
-use Rattle.kit_top.specs.declared.command.Command.TheVariants.{Replay}
+use Rattle.kit_top.specs.declared.command.Command.TheVariants.{OnFederation}
+use Rattle.kit_top.specs.declared.command.FederationCommand.TheVariants.{Replay}
 
 -- a place that is there is among the places
 pub at_below : {A : Type 0} (xs : List A) (i : ℕ) (x : A) → get_elem? xs i ≡ some x → i < length xs
@@ -118,7 +119,7 @@ IsEnough p (ends.NoBuffer i n) = ⊥
 IsEnough p (ends.SendsSpent i) = ⊥
 IsEnough p _ = Unit {0}
 
-floor_is_enough : (p : Parts) (schedule : List ℕ) (end : End) (reports : List NodeReport) (f : LbtsFloor) → spender p ≡ None → HasBuffers (Replay schedule) p → IsReplay p schedule most_rounds end reports f → IsEnough p end
+floor_is_enough : (p : Parts) (schedule : List ℕ) (end : End) (reports : List NodeReport) (f : LbtsFloor) → spender p ≡ None → HasBuffers (OnFederation (Replay schedule)) p → IsReplay p schedule most_rounds end reports f → IsEnough p end
 floor_is_enough p schedule ends.Done reports f none buffers h = tt
 floor_is_enough p schedule (ends.Unfinished i) reports f none buffers h = tt
 floor_is_enough p schedule (ends.NoBuffer i n) reports f none buffers h =
@@ -128,9 +129,9 @@ floor_is_enough p schedule (ends.SendsSpent i) reports f none buffers h = absurd
 floor_is_enough p schedule (ends.RoundsSpent i) reports f none buffers h = tt
 floor_is_enough p schedule ends.NoMemory reports f none buffers h = tt
 
-replayed_is_enough : (p : Parts) (schedule : List ℕ) (end : End) (reports : List NodeReport) (floor : Option LbtsFloor) → spender p ≡ None → HasBuffers (Replay schedule) p → IsReplayed p schedule most_rounds end reports floor → IsEnough p end
+replayed_is_enough : (p : Parts) (schedule : List ℕ) (end : End) (reports : List NodeReport) (floor : Option LbtsFloor) → spender p ≡ None → HasBuffers (OnFederation (Replay schedule)) p → IsReplayed p schedule most_rounds end reports floor → IsEnough p end
 replayed_is_enough p schedule end reports None none buffers h = subst (IsEnough p) (sym h.end_is) tt
 replayed_is_enough p schedule end reports (Some f) none buffers h = floor_is_enough p schedule end reports f none buffers h
 
-pub run_is_enough : (p : Parts) (schedule : List ℕ) (r : Run) → spender p ≡ None → HasBuffers (Replay schedule) p → IsRunOf p schedule r → IsEnough p r.end
+pub run_is_enough : (p : Parts) (schedule : List ℕ) (r : Run) → spender p ≡ None → HasBuffers (OnFederation (Replay schedule)) p → IsRunOf p schedule r → IsEnough p r.end
 run_is_enough p schedule r none buffers h = replayed_is_enough p schedule r.end r.reports r.floor none buffers h.0

@@ -8,3 +8,4 @@ pub mod WorkerTelling
 pub mod Kept
 pub mod Headlines
 pub mod WorkerLaws
+pub mod RegionLaws

@@ -7,17 +7,22 @@ use Rattle.kit_rules.specs.Parts.{Parts}
 use Rattle.kit_rules.specs.Simulation.{spender}
 use Rattle.kit_file.specs.declared.fault.FileFault.{FileFault}
 use Rattle.kit_file.specs.declared.fault.FileFault.TheVariants as file
-use Rattle.kit_file.specs.Answers.{Says, IsAccepted, IsFirstFault, IsNoJson, file_fault, path_text}
-use Rattle.kit_file.specs.Walk.{walk}
+use Rattle.kit_file.specs.Answers.{Says, IsAccepted, IsAcceptedPlan, IsFirstFault, IsNoJson, file_fault, path_text}
+use Rattle.kit_file.specs.Walk.{plan_walk, walk}
+use Rattle.kit_file.proofs.KeysMean.{others_have_none, plans_mean}
+use Rattle.kit_regions.specs.Lowered.{federation_of}
+use Rattle.kit_regions.specs.Plan.{Plan}
 use Rattle.kit_node.specs.declared.ends.End.{End}
 use Rattle.kit_node.specs.declared.ends.End.TheVariants as ends
 use Rattle.kit_schedule.specs.Schedules.{IsSchedule}
 use Rattle.kit_schedule.proofs.Fronts.{words_same}
 use Rattle.kit_top.specs.declared.command.Command.{Command}
-use Rattle.kit_top.specs.declared.command.Command.TheVariants.{Oracle, Check, Replay}
+use Rattle.kit_top.specs.declared.command.Command.TheVariants.{OnFederation, Regions}
+use Rattle.kit_top.specs.declared.command.FederationCommand.{FederationCommand}
+use Rattle.kit_top.specs.declared.command.FederationCommand.TheVariants.{Oracle, Check, Replay}
 use Rattle.kit_top.specs.declared.status.Status.{Status}
 use Rattle.kit_top.specs.declared.status.Status.TheVariants.{Done, Usage, ReadFault, TooLong, BadFile, Unfinished, NoBuffer, SendsSpent, RoundsSpent, WriteFault, NoMemory}
-use Rattle.kit_top.specs.Causes.{Answers, Causes, EndCauses, FileCauses, FederationCauses, HasBuffers, IsCommand, IsNoCommand, IsReplayCommand, IsWhole, IsThis, IsBadFile, Run, SimulationCauses, bad_file_text, end_of, spent_text, text_of, OneCause, Completes, most_bytes}
+use Rattle.kit_top.specs.Causes.{AcceptedCauses, Answers, Causes, EndCauses, FileCauses, FederationCauses, HasBuffers, IsCommand, IsFederationCommand, IsNoCommand, IsReplayCommand, IsWhole, IsThis, IsBadFile, Run, SimulationCauses, bad_file_text, end_of, plan_text, spent_text, text_of, OneCause, Completes, most_bytes}
 use Rattle.kit_top.proofs.Ends.{IsEnough, run_is_enough}
 
 pub some_same : {X : Type 0} (x y : X) → Some x ≡ Some y → x ≡ y
@@ -83,8 +88,22 @@ pub accepted_not_bad : (bytes : List ℕ) (p : Parts) (f : FileFault) → IsAcce
 accepted_not_bad bytes p f a b =
     elim (bad_cases bytes f b) [ inl y ↦ json_is bytes a.0 a.1 y.1 | inr y ↦ accepted_no_fault bytes p f a y ]
 
+-- a file has one plan, or none
+plan_same : (bytes : List ℕ) (p q : Option Plan) → IsAcceptedPlan bytes p → IsAcceptedPlan bytes q → p ≡ q
+plan_same bytes p q a b =
+    let same : a.0 ≡ b.0 = says_same bytes a.0 b.0 a.1 b.1 in
+    ok_same p q (plan_walk a.0) a.2 (ap plan_walk same ∙ b.2)
+
+-- and it has a federation too
+planned_is_accepted : (bytes : List ℕ) (plan : Option Plan) → IsAcceptedPlan bytes plan → (p : Parts) × IsAccepted bytes p
+planned_is_accepted bytes None a = let w = (others_have_none a.0).0 a.2 in (w.3, (a.0, a.1, w.4))
+planned_is_accepted bytes (Some plan) a = (federation_of plan, (a.0, a.1, (plans_mean a.0 plan a.2).federation))
+
+planned_not_bad : (bytes : List ℕ) (plan : Option Plan) (f : FileFault) → IsAcceptedPlan bytes plan → IsBadFile bytes f → ⊥
+planned_not_bad bytes plan f a b = let w = planned_is_accepted bytes plan a in accepted_not_bad bytes w.0 f w.1 b
+
 -- what a simulation causes: a text, or that a federate takes number 16,385
-simulation_cases : (command : Command) (p : Parts) (s : Status) (a : List ℕ) → SimulationCauses command p s a
+simulation_cases : (command : FederationCommand) (p : Parts) (s : Status) (a : List ℕ) → SimulationCauses command p s a
     → ((s ≡ Done) × (spender p ≡ None) × (a ≡ text_of command p)) ⊎ ((i : ℕ) × (s ≡ SendsSpent i) × (spender p ≡ Some i) × (a ≡ spent_text p i))
 simulation_cases command p Done a h = inl (refl, h.0, h.1)
 simulation_cases command p (SendsSpent i) a h = inr (i, refl, h.0, h.1)
@@ -101,7 +120,7 @@ simulation_cases command p NoMemory a h = absurd h
 none_some : (i : ℕ) → None ≡ Some i → ⊥
 none_some i e = absurd (cc)
 
-simulation_same : (command : Command) (p : Parts) (s t : Status) (a b : List ℕ) → SimulationCauses command p s a → SimulationCauses command p t b → (s ≡ t) × (a ≡ b)
+simulation_same : (command : FederationCommand) (p : Parts) (s t : Status) (a b : List ℕ) → SimulationCauses command p s a → SimulationCauses command p t b → (s ≡ t) × (a ≡ b)
 simulation_same command p s t a b h k =
     elim (simulation_cases command p s a h) [
       | inl x ↦ elim (simulation_cases command p t b k) [
@@ -126,15 +145,15 @@ end_same p (ends.RoundsSpent i) s t a b h k = absurd h
 end_same p ends.NoMemory s t a b h k = absurd h
 
 -- a command that replays
-abbrev IsReplaying : Command → Type 0
+abbrev IsReplaying : FederationCommand → Type 0
 IsReplaying (Replay schedule) = Unit {0}
 IsReplaying _ = ⊥
 
 -- two runs of it, if it replays, ended alike
-abbrev EndAlike : Command → Option Run → Option Run → Type 0
+abbrev EndAlike : FederationCommand → Option Run → Option Run → Type 0
 EndAlike command q r = IsReplaying command → end_of q ≡ end_of r
 
-federation_same : (command : Command) (p : Parts) (q r : Option Run) (s t : Status) (a b : List ℕ) → EndAlike command q r → FederationCauses command p q s a → FederationCauses command p r t b → (s ≡ t) × (a ≡ b)
+federation_same : (command : FederationCommand) (p : Parts) (q r : Option Run) (s t : Status) (a b : List ℕ) → EndAlike command q r → FederationCauses command p q s a → FederationCauses command p r t b → (s ≡ t) × (a ≡ b)
 federation_same Oracle p q r s t a b alike h k = simulation_same Oracle p s t a b h k
 federation_same Check p q r s t a b alike h k = simulation_same Check p s t a b h k
 federation_same (Replay schedule) p None r s t a b alike h k = absurd h
@@ -144,9 +163,27 @@ federation_same (Replay schedule) p (Some x) (Some y) s t a b alike h k =
     let P : End → Type 0 = λ end. EndCauses p end s a in
     end_same p y.end s t a b (subst P same h.1) k.1
 
--- what a file causes: its fault, or what its federation causes
+-- the same of any command
+abbrev AllAlike : Command → Option Run → Option Run → Type 0
+AllAlike (OnFederation command) q r = EndAlike command q r
+AllAlike Regions q r = Unit {0}
+
+accepted_causes_same : (command : Command) (bytes : List ℕ) (q r : Option Run) (s t : Status) (a b : List ℕ) → AllAlike command q r → AcceptedCauses command bytes q s a → AcceptedCauses command bytes r t b → (s ≡ t) × (a ≡ b)
+accepted_causes_same (OnFederation command) bytes q r s t a b alike h k =
+    let same : k.0 ≡ h.0 = accepted_same bytes k.0 h.0 k.1 h.1 in
+    let P : Parts → Type 0 = λ p. FederationCauses command p r t b in
+    federation_same command h.0 q r s t a b alike h.2 (subst P same k.2)
+accepted_causes_same Regions bytes q r s t a b alike h k =
+    (h.2.0 ∙ sym k.2.0, h.2.1 ∙ ap plan_text (plan_same bytes h.0 k.0 h.1 k.1) ∙ sym k.2.1)
+
+-- a file that is accepted has no fault
+accepted_causes_not_bad : (command : Command) (bytes : List ℕ) (run : Option Run) (s : Status) (a : List ℕ) (f : FileFault) → AcceptedCauses command bytes run s a → IsBadFile bytes f → ⊥
+accepted_causes_not_bad (OnFederation command) bytes run s a f h b = accepted_not_bad bytes h.0 f h.1 b
+accepted_causes_not_bad Regions bytes run s a f h b = planned_not_bad bytes h.0 f h.1 b
+
+-- what a file causes: its fault, or what it causes where it is accepted
 file_cases : (command : Command) (bytes : List ℕ) (run : Option Run) (s : Status) (a : List ℕ) → FileCauses command bytes run s a
-    → ((f : FileFault) × (s ≡ BadFile f) × IsBadFile bytes f × (a ≡ bad_file_text f)) ⊎ ((p : Parts) × IsAccepted bytes p × FederationCauses command p run s a)
+    → ((f : FileFault) × (s ≡ BadFile f) × IsBadFile bytes f × (a ≡ bad_file_text f)) ⊎ AcceptedCauses command bytes run s a
 file_cases command bytes run (BadFile f) a h = inl (f, refl, h.0, h.1)
 file_cases command bytes run Done a h = inr h
 file_cases command bytes run Usage a h = inr h
@@ -159,16 +196,16 @@ file_cases command bytes run (RoundsSpent i) a h = inr h
 file_cases command bytes run WriteFault a h = inr h
 file_cases command bytes run NoMemory a h = inr h
 
-file_same : (command : Command) (bytes : List ℕ) (q r : Option Run) (s t : Status) (a b : List ℕ) → EndAlike command q r → FileCauses command bytes q s a → FileCauses command bytes r t b → (s ≡ t) × (a ≡ b)
+file_same : (command : Command) (bytes : List ℕ) (q r : Option Run) (s t : Status) (a b : List ℕ) → AllAlike command q r → FileCauses command bytes q s a → FileCauses command bytes r t b → (s ≡ t) × (a ≡ b)
 file_same command bytes q r s t a b alike h k =
     elim (file_cases command bytes q s a h) [
       | inl x ↦ elim (file_cases command bytes r t b k) [
         | inl y ↦ (let same : x.0 ≡ y.0 = bad_same bytes x.0 y.0 x.2 y.2 in (x.1 ∙ ap BadFile same ∙ sym y.1, x.3 ∙ ap bad_file_text same ∙ sym y.3))
-        | inr y ↦ absurd (accepted_not_bad bytes y.0 x.0 y.1 x.2)
+        | inr y ↦ absurd (accepted_causes_not_bad command bytes r t b x.0 y x.2)
       ]
       | inr x ↦ elim (file_cases command bytes r t b k) [
-        | inl y ↦ absurd (accepted_not_bad bytes x.0 y.0 x.1 y.2)
-        | inr y ↦ (let same : y.0 ≡ x.0 = accepted_same bytes y.0 x.0 y.1 x.1 in let P : Parts → Type 0 = λ p. FederationCauses command p r t b in federation_same command x.0 q r s t a b alike x.2 (subst P same y.2))
+        | inl y ↦ absurd (accepted_causes_not_bad command bytes q s a y.0 x y.2)
+        | inr y ↦ accepted_causes_same command bytes q r s t a b alike x y
       ]
     ]
 
@@ -178,6 +215,10 @@ tail_same w xs ys e = cc
 -- words with other first letters are others
 pub differ : (a b : List (List ℕ)) (m n : ℕ) → a ≡ b → get_or (get_or a 0 []) 0 0 ≡ m → get_or (get_or b 0 []) 0 0 ≡ n → m ≢ n → ⊥
 differ a b m n e here there other = other (sym here ∙ ap (λ (ws : List (List ℕ)). get_or (get_or ws 0 []) 0 0) e ∙ there)
+
+-- and so are words of other lengths
+differ_length : (a b : List (List ℕ)) (m n : ℕ) → a ≡ b → length (get_or a 0 []) ≡ m → length (get_or b 0 []) ≡ n → m ≢ n → ⊥
+differ_length a b m n e here there other = other (sym here ∙ ap (λ (ws : List (List ℕ)). length (get_or ws 0 [])) e ∙ there)
 
 o_not_c : (m n : ℕ) → m ≡ 111 → n ≡ 99 → m ≢ n
 o_not_c m n a b e = absurd (omega arith)
@@ -197,27 +238,44 @@ oracle_or_replay rest e = differ (codes "oracle" ∷ []) (codes "replay" ∷ res
 check_or_replay : (rest : List (List ℕ)) → codes "check" ∷ [] ≡ codes "replay" ∷ rest → ⊥
 check_or_replay rest e = differ (codes "check" ∷ []) (codes "replay" ∷ rest) 99 114 e refl refl (c_not_r 99 114 refl refl)
 
--- words are those of one command
-command_same : (words : List (List ℕ)) (c d : Command) → IsCommand words c → IsCommand words d → c ≡ d
-command_same words Oracle Oracle a b = refl
-command_same words Check Check a b = refl
-command_same words Oracle Check a b = absurd (oracle_or_check (sym a ∙ b))
-command_same words Check Oracle a b = absurd (oracle_or_check (sym b ∙ a))
-command_same words Oracle (Replay schedule) a b = absurd (oracle_or_replay b.0 (sym a ∙ b.1))
-command_same words Check (Replay schedule) a b = absurd (check_or_replay b.0 (sym a ∙ b.1))
-command_same words (Replay schedule) Oracle a b = absurd (oracle_or_replay a.0 (sym b ∙ a.1))
-command_same words (Replay schedule) Check a b = absurd (check_or_replay a.0 (sym b ∙ a.1))
-command_same words (Replay x) (Replay y) a b =
+-- words are those of one command on a federation
+federation_command_same : (words : List (List ℕ)) (c d : FederationCommand) → IsFederationCommand words c → IsFederationCommand words d → c ≡ d
+federation_command_same words Oracle Oracle a b = refl
+federation_command_same words Check Check a b = refl
+federation_command_same words Oracle Check a b = absurd (oracle_or_check (sym a ∙ b))
+federation_command_same words Check Oracle a b = absurd (oracle_or_check (sym b ∙ a))
+federation_command_same words Oracle (Replay schedule) a b = absurd (oracle_or_replay b.0 (sym a ∙ b.1))
+federation_command_same words Check (Replay schedule) a b = absurd (check_or_replay b.0 (sym a ∙ b.1))
+federation_command_same words (Replay schedule) Oracle a b = absurd (oracle_or_replay a.0 (sym b ∙ a.1))
+federation_command_same words (Replay schedule) Check a b = absurd (check_or_replay a.0 (sym b ∙ a.1))
+federation_command_same words (Replay x) (Replay y) a b =
     let same : a.0 ≡ b.0 = tail_same (codes "replay") a.0 b.0 (sym a.1 ∙ b.1) in
     let P : List (List ℕ) → Type 0 = λ rest. IsSchedule rest x in
     let here : IsSchedule b.0 x = subst P same a.2 in
     ap Replay (words_same b.0 x y here.words_are b.2.words_are)
 
+-- and those of `regions` are of none
+regions_or : (words : List (List ℕ)) (c : FederationCommand) → words ≡ codes "regions" ∷ [] → IsFederationCommand words c → ⊥
+regions_or words Oracle a b = differ (codes "oracle" ∷ []) (codes "regions" ∷ []) 111 114 (sym b ∙ a) refl refl (o_not_r 111 114 refl refl)
+regions_or words Check a b = differ (codes "check" ∷ []) (codes "regions" ∷ []) 99 114 (sym b ∙ a) refl refl (c_not_r 99 114 refl refl)
+regions_or words (Replay schedule) a b =
+    differ_length (codes "replay" ∷ b.0) (codes "regions" ∷ []) 6 7 (sym b.1 ∙ a) refl refl (λ e. absurd (omega (arith, e)))
+
+command_same : (words : List (List ℕ)) (c d : Command) → IsCommand words c → IsCommand words d → c ≡ d
+command_same words (OnFederation c) (OnFederation d) a b = ap OnFederation (federation_command_same words c d a b)
+command_same words (OnFederation c) Regions a b = absurd (regions_or words c b a)
+command_same words Regions (OnFederation d) a b = absurd (regions_or words d a b)
+command_same words Regions Regions a b = refl
+
 -- a command of words that replays is that of `replay`
-replaying : (words : List (List ℕ)) (command : Command) → IsCommand words command → IsReplaying command → IsReplayCommand words
+replaying : (words : List (List ℕ)) (command : FederationCommand) → IsFederationCommand words command → IsReplaying command → IsReplayCommand words
 replaying words Oracle word h = absurd h
 replaying words Check word h = absurd h
 replaying words (Replay schedule) word h = (schedule, word)
+
+alike_all : (words : List (List ℕ)) (command : Command) (q r : Option Run) → IsCommand words command → (IsReplayCommand words → end_of q ≡ end_of r) → AllAlike command q r
+alike_all words (OnFederation command) q r word alike = λ is. alike (replaying words command word is)
+alike_all words Regions q r word alike = tt
 
 -- bytes that were taken whole are those that were left
 pub all_left : (before : Option (List ℕ)) (xs bytes : List ℕ) → before ≡ Some xs → IfSome before (λ ys. bytes ≡ ys) → bytes ≡ xs
@@ -252,7 +310,7 @@ read_fault_cases WriteFault = inr (λ e. absurd (cc))
 read_fault_cases NoMemory = inr (λ e. absurd (cc))
 
 -- a federation in which nobody takes number 16,385, with enough buffers, causes the answer to the command
-answers_run : (schedule : List ℕ) (p : Parts) (r : Run) (end : End) (s : Status) (a : List ℕ) → IsEnough p end → EndCauses p end s a → Answers (Replay schedule) p s a
+answers_run : (schedule : List ℕ) (p : Parts) (r : Run) (end : End) (s : Status) (a : List ℕ) → IsEnough p end → EndCauses p end s a → Answers (OnFederation (Replay schedule)) p s a
 answers_run schedule p r ends.Done s a enough h = inl h
 answers_run schedule p r (ends.Unfinished i) s a enough h = inr (i, h)
 answers_run schedule p r (ends.NoBuffer i n) s a enough h = absurd enough
@@ -260,18 +318,24 @@ answers_run schedule p r (ends.SendsSpent i) s a enough h = absurd enough
 answers_run schedule p r (ends.RoundsSpent i) s a enough h = absurd h
 answers_run schedule p r ends.NoMemory s a enough h = absurd h
 
-federation_answers : (command : Command) (p : Parts) (run : Option Run) (s : Status) (a : List ℕ) → spender p ≡ None → HasBuffers command p → FederationCauses command p run s a → Answers command p s a
+federation_answers : (command : FederationCommand) (p : Parts) (run : Option Run) (s : Status) (a : List ℕ) → spender p ≡ None → HasBuffers (OnFederation command) p → FederationCauses command p run s a → Answers (OnFederation command) p s a
 federation_answers Oracle p run s a none buffers h = simulation_same Oracle p s Done a (text_of Oracle p) h (none, refl)
 federation_answers Check p run s a none buffers h = simulation_same Check p s Done a (text_of Check p) h (none, refl)
 federation_answers (Replay schedule) p None s a none buffers h = absurd h
 federation_answers (Replay schedule) p (Some r) s a none buffers h = answers_run schedule p r r.end s a (run_is_enough p schedule r none buffers h.0) h.1
+
+accepted_answers : (command : Command) (bytes : List ℕ) (p : Parts) (run : Option Run) (s : Status) (a : List ℕ) → IsAccepted bytes p → spender p ≡ None → HasBuffers command p → AcceptedCauses command bytes run s a → Answers command p s a
+accepted_answers (OnFederation command) bytes p run s a accepted none buffers h =
+    let P : Parts → Type 0 = λ p. FederationCauses command p run s a in
+    federation_answers command p run s a none buffers (subst P (accepted_same bytes h.0 p h.1 accepted) h.2)
+accepted_answers Regions bytes p run s a accepted none buffers h = h.2.0
 
 -- and so does its file
 file_answers : (command : Command) (bytes : List ℕ) (p : Parts) (run : Option Run) (s : Status) (a : List ℕ) → IsAccepted bytes p → spender p ≡ None → HasBuffers command p → FileCauses command bytes run s a → Answers command p s a
 file_answers command bytes p run s a accepted none buffers h =
     elim (file_cases command bytes run s a h) [
       | inl x ↦ absurd (accepted_not_bad bytes p x.0 accepted x.2)
-      | inr x ↦ (let P : Parts → Type 0 = λ p. FederationCauses command p run s a in federation_answers command p run s a none buffers (subst P (accepted_same bytes x.0 p x.1 accepted) x.2))
+      | inr x ↦ accepted_answers command bytes p run s a accepted none buffers x
     ]
 
 module _ {S : Type 0} (g : Ghosts S) where
@@ -316,7 +380,7 @@ module _ {S : Type 0} (g : Ghosts S) where
 
   whole_same : (words : List (List ℕ)) (old new : S) (xs : List ℕ) (q r : Option Run) (s t : Status) (a b : List ℕ) → g.left old ≡ Some xs → (IsReplayCommand words → end_of q ≡ end_of r) → Whole words old new q s a → Whole words old new r t b → (s ≡ t) × (a ≡ b)
   whole_same words old new xs q r s t a b e alike x y =
-      file_same x.command xs q r s t a b (λ is. alike (replaying words x.command x.word is)) (whole_causes words old new x.command xs q s a e x.word x) (whole_causes words old new x.command xs r t b e x.word y)
+      file_same x.command xs q r s t a b (alike_all words x.command q r x.word alike) (whole_causes words old new x.command xs q s a e x.word x) (whole_causes words old new x.command xs r t b e x.word y)
 
   pub one_cause_law : OneCause g
   one_cause_law words old new xs q r s t a b e not_s not_t alike h k =

@@ -4,7 +4,9 @@ use Rattle.std.specs.Io.KnownBytes.{Appends}
 use Rattle.kit_node.specs.declared.ends.End.{End}
 use Rattle.kit_node.specs.declared.ends.End.TheVariants as ends
 use Rattle.kit_top.specs.declared.command.Command.{Command}
-use Rattle.kit_top.specs.declared.command.Command.TheVariants.{Oracle, Check, Replay}
+use Rattle.kit_top.specs.declared.command.Command.TheVariants.{OnFederation, Regions}
+use Rattle.kit_top.specs.declared.command.FederationCommand.{FederationCommand}
+use Rattle.kit_top.specs.declared.command.FederationCommand.TheVariants.{Oracle, Check, Replay}
 use Rattle.kit_top.specs.declared.ended.Ended.{Ended}
 use Rattle.kit_top.specs.declared.status.Status.{Status}
 use Rattle.kit_top.specs.declared.status.Status.TheVariants.{Done, Usage, ReadFault, TooLong, BadFile, Unfinished, NoBuffer, SendsSpent, RoundsSpent, WriteFault, NoMemory}
@@ -17,8 +19,8 @@ use Rattle.kit_oracle.specs.declared.end.OracleEnd.{OracleEnd}
 use Rattle.kit_oracle.specs.declared.end.OracleEnd.TheVariants as oracle
 use Rattle.kit_file.specs.declared.fault.FileFault.{FileFault}
 use Rattle.kit_file.specs.declared.fault.FileFault.TheVariants as file
-use Rattle.kit_file.specs.Answers.{IsAccepted, IsFaultAtPath, IsNoJson}
-use Rattle.kit_top.specs.Causes.{Told, Causes, EndCauses, EndsWith, OracleEndCauses, FileCauses, FederationCauses, HasText, InputCauses, IsCommand, IsEnded, IsFileRun, IsLeft, IsRun, IsWhole, IsWithin, IsBadFile, IsTheFault, IsThis, IsAnswered, Run, SimulationCauses, text_of}
+use Rattle.kit_file.specs.Answers.{IsFaultAtPath, IsNoJson}
+use Rattle.kit_top.specs.Causes.{Told, AcceptedCauses, Causes, EndCauses, EndsWith, OracleEndCauses, FileCauses, FederationCauses, HasText, InputCauses, IsCommand, IsEnded, IsFileRun, IsLeft, IsRun, IsWhole, IsWithin, IsBadFile, IsTheFault, IsThis, IsAnswered, IsAsked, Run, SimulationCauses, text_of}
 
 pub told_weaker : (A B : Status → List ℕ → Type 0) (old new : Option (List ℕ)) (s : Status) → ((s : Status) (text : List ℕ) → A s text → B s text) → Told A old new s → Told B old new s
 told_weaker A B old new Done f h = (h.0, f Done h.0 h.1, h.2)
@@ -41,7 +43,7 @@ IsRunStatus (NoBuffer i n) = Unit {0}
 IsRunStatus (SendsSpent i) = Unit {0}
 IsRunStatus _ = ⊥
 
-simulation_status : (command : Command) (p : Parts) (s : Status) (text : List ℕ) → SimulationCauses command p s text → IsRunStatus s
+simulation_status : (command : FederationCommand) (p : Parts) (s : Status) (text : List ℕ) → SimulationCauses command p s text → IsRunStatus s
 simulation_status command p Done text h = tt
 simulation_status command p (SendsSpent i) text h = tt
 simulation_status command p Usage text h = absurd h
@@ -62,33 +64,37 @@ end_status p (ends.SendsSpent i) s text h = subst IsRunStatus (sym h.0) tt
 end_status p (ends.RoundsSpent i) s text h = absurd h
 end_status p ends.NoMemory s text h = absurd h
 
-federation_status : (command : Command) (p : Parts) (run : Option Run) (s : Status) (text : List ℕ) → FederationCauses command p run s text → IsRunStatus s
+federation_status : (command : FederationCommand) (p : Parts) (run : Option Run) (s : Status) (text : List ℕ) → FederationCauses command p run s text → IsRunStatus s
 federation_status Oracle p run s text h = simulation_status Oracle p s text h
 federation_status Check p run s text h = simulation_status Check p s text h
 federation_status (Replay schedule) p None s text h = absurd h
 federation_status (Replay schedule) p (Some r) s text h = end_status p r.end s text h.1
 
--- what a federation causes, a file of it causes
-pub file_causes : (command : Command) (bytes : List ℕ) (p : Parts) (run : Option Run) → IsAccepted bytes p → (s : Status) (text : List ℕ) → FederationCauses command p run s text → FileCauses command bytes run s text
-file_causes command bytes p run form (BadFile x) text h = absurd (federation_status command p run (BadFile x) text h)
-file_causes command bytes p run form Done text h = (p, form, h)
-file_causes command bytes p run form Usage text h = (p, form, h)
-file_causes command bytes p run form ReadFault text h = (p, form, h)
-file_causes command bytes p run form TooLong text h = (p, form, h)
-file_causes command bytes p run form (Unfinished i) text h = (p, form, h)
-file_causes command bytes p run form (NoBuffer i n) text h = (p, form, h)
-file_causes command bytes p run form (SendsSpent i) text h = (p, form, h)
-file_causes command bytes p run form (RoundsSpent i) text h = (p, form, h)
-file_causes command bytes p run form WriteFault text h = (p, form, h)
-file_causes command bytes p run form NoMemory text h = (p, form, h)
+-- what a file causes that is accepted
+accepted_status : (command : Command) (bytes : List ℕ) (run : Option Run) (s : Status) (text : List ℕ) → AcceptedCauses command bytes run s text → IsRunStatus s
+accepted_status (OnFederation command) bytes run s text h = federation_status command h.0 run s text h.2
+accepted_status Regions bytes run s text h = subst IsRunStatus (sym h.2.0) tt
+
+pub accepted_causes : (command : Command) (bytes : List ℕ) (run : Option Run) (s : Status) (text : List ℕ) → AcceptedCauses command bytes run s text → FileCauses command bytes run s text
+accepted_causes command bytes run (BadFile x) text h = absurd (accepted_status command bytes run (BadFile x) text h)
+accepted_causes command bytes run Done text h = h
+accepted_causes command bytes run Usage text h = h
+accepted_causes command bytes run ReadFault text h = h
+accepted_causes command bytes run TooLong text h = h
+accepted_causes command bytes run (Unfinished i) text h = h
+accepted_causes command bytes run (NoBuffer i n) text h = h
+accepted_causes command bytes run (SendsSpent i) text h = h
+accepted_causes command bytes run (RoundsSpent i) text h = h
+accepted_causes command bytes run WriteFault text h = h
+accepted_causes command bytes run NoMemory text h = h
 
 -- what a command makes of a file, its words and a source that was read whole cause
 pub command_causes : {S : Type 0} (g : Ghosts S) (words : List (List ℕ)) (old new : S) (command : Command) (bytes : List ℕ) (run : Option Run) → IsCommand words command → IsWhole g old new bytes → (s : Status) (text : List ℕ)
     → FileCauses command bytes run s text → Causes g words old new run s text
 command_causes g words old new command bytes run word whole Done text h = (command, word, bytes, whole, h)
-command_causes g words old new command bytes run word whole Usage text h = absurd (federation_status command h.0 run Usage text h.2)
-command_causes g words old new command bytes run word whole ReadFault text h = absurd (federation_status command h.0 run ReadFault text h.2)
-command_causes g words old new command bytes run word whole TooLong text h = absurd (federation_status command h.0 run TooLong text h.2)
+command_causes g words old new command bytes run word whole Usage text h = absurd (accepted_status command bytes run Usage text h)
+command_causes g words old new command bytes run word whole ReadFault text h = absurd (accepted_status command bytes run ReadFault text h)
+command_causes g words old new command bytes run word whole TooLong text h = absurd (accepted_status command bytes run TooLong text h)
 command_causes g words old new command bytes run word whole (BadFile x) text h = (command, word, bytes, whole, h)
 command_causes g words old new command bytes run word whole (Unfinished i) text h = (command, word, bytes, whole, h)
 command_causes g words old new command bytes run word whole (NoBuffer i n) text h = (command, word, bytes, whole, h)
@@ -162,11 +168,15 @@ end_done p (ends.SendsSpent i) text h = let e : Done ≡ SendsSpent i = h.0 in a
 end_done p (ends.RoundsSpent i) text h = absurd h
 end_done p ends.NoMemory text h = absurd h
 
-federation_done : (command : Command) (p : Parts) (run : Option Run) (text : List ℕ) → FederationCauses command p run Done text → IsWithin command p × (text ≡ text_of command p)
+federation_done : (command : FederationCommand) (p : Parts) (run : Option Run) (text : List ℕ) → FederationCauses command p run Done text → IsWithin command p × (text ≡ text_of command p)
 federation_done Oracle p run text h = (h.0, h.1)
 federation_done Check p run text h = (h.0, h.1)
 federation_done (Replay schedule) p None text h = absurd h
 federation_done (Replay schedule) p (Some r) text h = (tt, end_done p r.end text h.1)
+
+accepted_done : (command : Command) (bytes : List ℕ) (run : Option Run) (text : List ℕ) → AcceptedCauses command bytes run Done text → IsAsked command bytes text
+accepted_done (OnFederation command) bytes run text h = let done = federation_done command h.0 run text h.2 in (h.0, h.1, done.0, done.1)
+accepted_done Regions bytes run text h = (h.0, h.1, h.2.1)
 
 -- what was told as Done is what the command asks
 pub answered_told : {S : Type 0} (g : Ghosts S) (words : List (List ℕ)) (from to : S) (old new : Option (List ℕ)) (ended : Ended) → ended.status ≡ Done → IsEnded g words from to old new ended → IsAnswered g words from to old new
@@ -177,17 +187,14 @@ answered_told g words from to old new ended e h =
     done : (run : Option Run) → Told (Causes g words from to run) old new Done → IsAnswered g words from to old new
     done run told =
         let cause = told.1 in
-        let asked = federation_done cause.0 cause.4.0 run told.0 cause.4.2 in
-        let P : List ℕ → Type 0 = λ text. Appends old new text in
         record {
           command = cause.0;
           word = cause.1;
           input = cause.2;
           whole = cause.3;
-          federation = cause.4.0;
-          accepted = cause.4.1;
-          within = asked.0;
-          written = subst P asked.1 told.2;
+          text = told.0;
+          asked = accepted_done cause.0 cause.2 run told.0 cause.4;
+          written = told.2;
         }
 
 -- an end that left nothing
@@ -212,7 +219,7 @@ ends_weaker A B R Q old new ended causes runs h = record {
 }
 
 -- a simulation that ended without a text is that of its command
-pub oracle_causes : (command : Command) (p : Parts) (end : OracleEnd) → IfSpentAt end (λ i. spender p ≡ Some i) → (s : Status) (text : List ℕ) → OracleEndCauses p end s text → SimulationCauses command p s text
+pub oracle_causes : (command : FederationCommand) (p : Parts) (end : OracleEnd) → IfSpentAt end (λ i. spender p ≡ Some i) → (s : Status) (text : List ℕ) → OracleEndCauses p end s text → SimulationCauses command p s text
 oracle_causes command p (oracle.SendsSpent i) spent s text h =
     let P : Status → Type 0 = λ s. SimulationCauses command p s text in
     subst P (sym h.0) (spent, h.1)
@@ -223,9 +230,10 @@ run_left_none : {S : Type 0} (g : Ghosts S) (words : List (List ℕ)) (old new :
 run_left_none g words old new r h = by h.0 h.4
   where
     by : (command : Command) → IsFileRun command h.2 r → r.account ≡ None
-    by Oracle x = absurd x.2
-    by Check x = absurd x.2
-    by (Replay schedule) x = x.2.1
+    by (OnFederation Oracle) x = absurd x.2
+    by (OnFederation Check) x = absurd x.2
+    by (OnFederation (Replay schedule)) x = x.2.1
+    by Regions x = absurd x
 
 pub no_account : {S : Type 0} (g : Ghosts S) (words : List (List ℕ)) (from to : S) (old new : Option (List ℕ)) (ended : Ended) → IsEnded g words from to old new ended → ended.account ≡ None
 no_account g words from to old new ended h = by h.run h.replayed h.left

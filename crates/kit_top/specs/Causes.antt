@@ -10,7 +10,9 @@ use Rattle.kit_rules.specs.Simulation.{spender}
 use Rattle.kit_rules.specs.Text.{simulation_text, check_text}
 use Rattle.kit_file.specs.declared.fault.FileFault.{FileFault}
 use Rattle.kit_file.specs.declared.fault.FileFault.TheVariants as file
-use Rattle.kit_file.specs.Answers.{IsAccepted, IsFirstFault, IsNoJson}
+use Rattle.kit_file.specs.Answers.{IsAccepted, IsAcceptedPlan, IsFirstFault, IsNoJson}
+use Rattle.kit_regions.specs.Plan.{Plan}
+use Rattle.kit_regions.specs.Text.{regions_text}
 use Rattle.kit_schedule.specs.Schedules.{IsSchedule}
 use Rattle.kit_node.specs.declared.ends.End.{End}
 use Rattle.kit_node.specs.declared.ends.End.TheVariants as ends
@@ -21,30 +23,42 @@ use Rattle.kit_replay.specs.Replays.{IsReplayed, LbtsFloor}
 use Rattle.kit_replay.specs.Reports.{AreWholeParts}
 use Rattle.kit_runner.specs.Runs.{LbtsAccount}
 use Rattle.kit_top.specs.declared.command.Command.{Command}
-use Rattle.kit_top.specs.declared.command.Command.TheVariants.{Oracle, Check, Replay}
+use Rattle.kit_top.specs.declared.command.Command.TheVariants.{OnFederation, Regions}
+use Rattle.kit_top.specs.declared.command.FederationCommand.{FederationCommand}
+use Rattle.kit_top.specs.declared.command.FederationCommand.TheVariants.{Oracle, Check, Replay}
 use Rattle.kit_top.specs.declared.ended.Ended.{Ended}
 use Rattle.kit_top.specs.declared.status.Status.{Status}
 use Rattle.kit_top.specs.declared.status.Status.TheVariants.{Done, Usage, ReadFault, TooLong, BadFile, Unfinished, NoBuffer, SendsSpent, RoundsSpent, WriteFault, NoMemory}
 
--- the words are those of a command: its one word, or `replay` and the words of its schedule
+-- the words are those of a command on a federation: its one word, or `replay` and the words of its schedule
+abbrev pub IsFederationCommand : List (List ℕ) → FederationCommand → Type 0
+IsFederationCommand words Oracle = words ≡ codes "oracle" ∷ []
+IsFederationCommand words Check = words ≡ codes "check" ∷ []
+IsFederationCommand words (Replay schedule) = (rest : List (List ℕ)) × (words ≡ codes "replay" ∷ rest) × IsSchedule rest schedule
+
+-- the words are those of a command
 abbrev pub IsCommand : List (List ℕ) → Command → Type 0
-IsCommand words Oracle = words ≡ codes "oracle" ∷ []
-IsCommand words Check = words ≡ codes "check" ∷ []
-IsCommand words (Replay schedule) = (rest : List (List ℕ)) × (words ≡ codes "replay" ∷ rest) × IsSchedule rest schedule
+IsCommand words (OnFederation command) = IsFederationCommand words command
+IsCommand words Regions = words ≡ codes "regions" ∷ []
 
 -- they are those of `replay`
 abbrev pub IsReplayCommand : List (List ℕ) → Type 0
-IsReplayCommand words = (schedule : List ℕ) × IsCommand words (Replay schedule)
+IsReplayCommand words = (schedule : List ℕ) × IsFederationCommand words (Replay schedule)
 
 -- the words are those of no command
 abbrev pub IsNoCommand : List (List ℕ) → Type 0
 IsNoCommand words = (command : Command) → IsCommand words command → ⊥
 
 -- what a command asks of a federation: the text of its sequential timestamp-ordered simulation, or that of its needs
-abbrev pub text_of : Command → Parts → List ℕ
+abbrev pub text_of : FederationCommand → Parts → List ℕ
 text_of Oracle p = simulation_text p
 text_of Check p = check_text p
 text_of (Replay schedule) p = simulation_text p
+
+-- what `regions` asks of the plan of a file, or of a file without one: a line for each update, or nothing
+abbrev pub plan_text : Option Plan → List ℕ
+plan_text None = []
+plan_text (Some plan) = regions_text plan
 
 -- WHAT WAS RUN: how the run ended, the reports of its nodes, and its floor, or the account of a floor of shared words
 pub record Run : Type 0 where
@@ -95,7 +109,7 @@ abbrev pub no_buffer_text : Parts → ℕ → ℕ → List ℕ
 no_buffer_text p i number = codes "fault NoBuffer " ++ (federate_at p i).name ++ codes " " ++ decimal number ++ codes "\n"
 
 -- what the simulation of a federation causes
-abbrev pub SimulationCauses : Command → Parts → Status → List ℕ → Type 0
+abbrev pub SimulationCauses : FederationCommand → Parts → Status → List ℕ → Type 0
 SimulationCauses command p Done text = (spender p ≡ None) × (text ≡ text_of command p)
 SimulationCauses command p (SendsSpent i) text = (spender p ≡ Some i) × (text ≡ spent_text p i)
 SimulationCauses command p _ text = ⊥
@@ -145,7 +159,7 @@ ReplayCauses schedule p None s text = ⊥
 ReplayCauses schedule p (Some r) s text = IsRunOf p schedule r × EndCauses p r.end s text
 
 -- what a command makes of a federation
-abbrev pub FederationCauses : Command → Parts → Option Run → Status → List ℕ → Type 0
+abbrev pub FederationCauses : FederationCommand → Parts → Option Run → Status → List ℕ → Type 0
 FederationCauses (Replay schedule) p run s text = ReplayCauses schedule p run s text
 FederationCauses Oracle p run s text = SimulationCauses Oracle p s text
 FederationCauses Check p run s text = SimulationCauses Check p s text
@@ -186,6 +200,10 @@ IsTheFault fault s text = (fault ≢ file.NoMemory) × IsThis (BadFile fault) (b
 abbrev pub IsInput : {S : Type 0} → Ghosts S → S → S → Parts → Type 0
 IsInput g old new p = (bytes : List ℕ) × IsWhole g old new bytes × IsAccepted bytes p
 
+-- the input is a file of this plan, or of none
+abbrev pub IsPlanInput : {S : Type 0} → Ghosts S → S → S → Option Plan → Type 0
+IsPlanInput g old new plan = (bytes : List ℕ) × IsWhole g old new bytes × IsAcceptedPlan bytes plan
+
 -- what an input causes that is none
 abbrev pub InputCauses : {S : Type 0} → Ghosts S → S → S → Status → List ℕ → Type 0
 InputCauses g old new ReadFault text = Rose (g.faults old) (g.faults new) × TookAtMost (g.left old) (g.left new) most_bytes × (text ≡ codes "fault ReadFault\n")
@@ -193,10 +211,15 @@ InputCauses g old new TooLong text = Took (g.left old) (g.left new) (most_bytes 
 InputCauses g old new (BadFile fault) text = (bytes : List ℕ) × IsWhole g old new bytes × IsBadFile bytes fault × (text ≡ bad_file_text fault)
 InputCauses g old new s text = ⊥
 
+-- what a command makes of the bytes of a file that is accepted
+abbrev pub AcceptedCauses : Command → List ℕ → Option Run → Status → List ℕ → Type 0
+AcceptedCauses (OnFederation command) bytes run s text = (p : Parts) × IsAccepted bytes p × FederationCauses command p run s text
+AcceptedCauses Regions bytes run s text = (plan : Option Plan) × IsAcceptedPlan bytes plan × IsThis Done (plan_text plan) s text
+
 -- what a command makes of the bytes of a file
 abbrev pub FileCauses : Command → List ℕ → Option Run → Status → List ℕ → Type 0
 FileCauses command bytes run (BadFile fault) text = IsBadFile bytes fault × (text ≡ bad_file_text fault)
-FileCauses command bytes run s text = (p : Parts) × IsAccepted bytes p × FederationCauses command p run s text
+FileCauses command bytes run s text = AcceptedCauses command bytes run s text
 
 -- the status that the words, the input and what was replayed cause, and its text; the source was the one and is the other
 abbrev pub Causes : {S : Type 0} → Ghosts S → List (List ℕ) → S → S → Option Run → Status → List ℕ → Type 0
@@ -220,9 +243,15 @@ HasText NoMemory = ⊥
 HasText s = Unit {0}
 
 -- nobody takes number 16,385 in the simulation that `oracle` and `check` run
-abbrev pub IsWithin : Command → Parts → Type 0
+abbrev pub IsWithin : FederationCommand → Parts → Type 0
 IsWithin (Replay schedule) p = Unit {0}
 IsWithin _ p = spender p ≡ None
+
+-- what a command asks of the file with these bytes: the text of the simulation of its federation, that of its needs, or the lines of
+-- its regions
+abbrev pub IsAsked : Command → List ℕ → List ℕ → Type 0
+IsAsked (OnFederation command) bytes text = (p : Parts) × IsAccepted bytes p × IsWithin command p × (text ≡ text_of command p)
+IsAsked Regions bytes text = (plan : Option Plan) × IsAcceptedPlan bytes plan × (text ≡ plan_text plan)
 
 -- the promise of each command: the input is a federation file, and what was written is what the command asks of it
 pub record IsAnswered {S : Type 0} (g : Ghosts S) (words : List (List ℕ)) (from to : S) (old new : Option (List ℕ)) : Type 0 where
@@ -230,10 +259,9 @@ pub record IsAnswered {S : Type 0} (g : Ghosts S) (words : List (List ℕ)) (fro
   pub word : IsCommand words command
   pub input : List ℕ
   pub whole : IsWhole g from to input
-  pub federation : Parts
-  pub accepted : IsAccepted input federation
-  pub within : IsWithin command federation
-  pub written : Appends old new (text_of command federation)
+  pub text : List ℕ
+  pub asked : IsAsked command input text
+  pub written : Appends old new text
 
 -- what is left is what the run left; nothing, where there was none
 abbrev pub IsLeft : Option Run → List NodeReport → Option LbtsFloor → Option LbtsAccount → Type 0
@@ -248,13 +276,14 @@ pub record EndsWith (causes : Option Run → Status → List ℕ → Type 0) (re
   pub told : Told (causes run) old new ended.status
 
 -- a run for a command and a federation, for a file of one, and for the words and the input
-abbrev pub IsFederationRun : Command → Parts → Run → Type 0
+abbrev pub IsFederationRun : FederationCommand → Parts → Run → Type 0
 IsFederationRun (Replay schedule) p r = IsRunOf p schedule r
 IsFederationRun Oracle p r = ⊥
 IsFederationRun Check p r = ⊥
 
 abbrev pub IsFileRun : Command → List ℕ → Run → Type 0
-IsFileRun command bytes r = (p : Parts) × IsAccepted bytes p × IsFederationRun command p r
+IsFileRun (OnFederation command) bytes r = (p : Parts) × IsAccepted bytes p × IsFederationRun command p r
+IsFileRun Regions bytes r = ⊥
 
 abbrev pub IsRun : {S : Type 0} → Ghosts S → List (List ℕ) → S → S → Run → Type 0
 IsRun g words old new r = (command : Command) × IsCommand words command × (bytes : List ℕ) × IsWhole g old new bytes × IsFileRun command bytes r
@@ -265,7 +294,7 @@ IsEnded g words from to old new ended = EndsWith (Causes g words from to) (IsRun
 
 -- there are as many buffers as each federate needs, where a command runs over buffers
 abbrev pub HasBuffers : Command → Parts → Type 0
-HasBuffers (Replay schedule) p = (i : ℕ) → i < length p.federates → need_of p i ≤ p.buffers
+HasBuffers (OnFederation (Replay schedule)) p = (i : ℕ) → i < length p.federates → need_of p i ≤ p.buffers
 HasBuffers _ p = Unit {0}
 
 -- the words are those of the command, the source tells its bytes, they are not too many, they are the file of the
@@ -281,8 +310,9 @@ pub record CanAnswer {S : Type 0} (g : Ghosts S) (words : List (List ℕ)) (old 
 
 -- what a command that can be answered causes
 abbrev pub Answers : Command → Parts → Status → List ℕ → Type 0
-Answers (Replay schedule) p s text = IsThis Done (simulation_text p) s text ⊎ (i : ℕ) × IsThis (Unfinished i) (federate_text (codes "Unfinished") p i) s text
-Answers command p s text = IsThis Done (text_of command p) s text
+Answers (OnFederation (Replay schedule)) p s text = IsThis Done (simulation_text p) s text ⊎ (i : ℕ) × IsThis (Unfinished i) (federate_text (codes "Unfinished") p i) s text
+Answers (OnFederation command) p s text = IsThis Done (text_of command p) s text
+Answers Regions p s text = s ≡ Done
 
 module _ {S : Type 0} (g : Ghosts S) where
   -- where the source tells its bytes, and no read failed, the words and the input, and for `replay` how the run ended,

@@ -10,7 +10,7 @@ ghost use Rattle.kit_top.specs.Causes.{OracleEndCauses, SimulationCauses, Told, 
 use crate::federates::tell_federate;
 use crate::replays::tell_replay;
 use crate::writing::tell;
-use crate::{Command, Ended, Status};
+use crate::{Ended, FederationCommand, Status};
 use kit_io::Sink;
 use kit_oracle::{OracleEnd, need, simulate};
 use kit_report::{need_text, text};
@@ -18,7 +18,8 @@ use kit_rules::Federation;
 use std::alloc::Global;
 
 fn oracle_text(alloc: Global, federation: &Federation) -> Result<Vec<u8>, OracleEnd>
-    ensures text { IfOk result (λ text. text.items ≡ text_of Command.Oracle federation.now) }
+    ensures text { IfOk result
+        (λ text. text.items ≡ text_of FederationCommand.Oracle federation.now) }
     ensures none { OnOk result (spender federation.now ≡ None) }
     ensures spent { IfSpent result (λ i. spender federation.now ≡ Some i) }
     ensures within { IfSpent result (λ i. i < length federation.now.federates) }
@@ -29,7 +30,8 @@ fn oracle_text(alloc: Global, federation: &Federation) -> Result<Vec<u8>, Oracle
 }
 
 fn check_text(alloc: Global, federation: &Federation) -> Result<Vec<u8>, OracleEnd>
-    ensures text { IfOk result (λ text. text.items ≡ text_of Command.Check federation.now) }
+    ensures text { IfOk result
+        (λ text. text.items ≡ text_of FederationCommand.Check federation.now) }
     ensures none { OnOk result (spender federation.now ≡ None) }
     ensures spent { IfSpent result (λ i. spender federation.now ≡ Some i) }
     ensures within { IfSpent result (λ i. i < length federation.now.federates) }
@@ -61,7 +63,7 @@ fn tell_oracle_end<K: Sink>(
 }
 
 fn tell_oracle<K: Sink>(alloc: Global, federation: &Federation, sink: &mut K) -> Status
-    ensures told { Told (SimulationCauses Command.Oracle federation.now)
+    ensures told { Told (SimulationCauses FederationCommand.Oracle federation.now)
         (K.holds sink.old) (K.holds sink.new) result }
     ensures fault { result ≡ Status.WriteFault → Rose (K.faults sink.old) (K.faults sink.new) }
 {
@@ -72,7 +74,7 @@ fn tell_oracle<K: Sink>(alloc: Global, federation: &Federation, sink: &mut K) ->
 }
 
 fn tell_check<K: Sink>(alloc: Global, federation: &Federation, sink: &mut K) -> Status
-    ensures told { Told (SimulationCauses Command.Check federation.now)
+    ensures told { Told (SimulationCauses FederationCommand.Check federation.now)
         (K.holds sink.old) (K.holds sink.new) result }
     ensures fault { result ≡ Status.WriteFault → Rose (K.faults sink.old) (K.faults sink.new) }
 {
@@ -85,7 +87,7 @@ fn tell_check<K: Sink>(alloc: Global, federation: &Federation, sink: &mut K) -> 
 /// What a command does with a federation.
 pub(crate) fn tell_federation<K: Sink>(
     alloc: Global,
-    command: &Command,
+    command: &FederationCommand,
     federation: &Federation,
     sink: &mut K,
 ) -> Ended
@@ -95,8 +97,8 @@ pub(crate) fn tell_federation<K: Sink>(
         → Rose (K.faults sink.old) (K.faults sink.new) }
 {
     match command {
-        Command::Oracle => Ended::empty(alloc, tell_oracle(alloc, federation, sink)),
-        Command::Check => Ended::empty(alloc, tell_check(alloc, federation, sink)),
-        Command::Replay(schedule) => tell_replay(alloc, federation, schedule, sink),
+        FederationCommand::Oracle => Ended::empty(alloc, tell_oracle(alloc, federation, sink)),
+        FederationCommand::Check => Ended::empty(alloc, tell_check(alloc, federation, sink)),
+        FederationCommand::Replay(schedule) => tell_replay(alloc, federation, schedule, sink),
     }
 }

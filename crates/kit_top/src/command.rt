@@ -1,5 +1,5 @@
-ghost use Rattle.std.specs.Prelude.{IfOk, IfSome, IfNone};
-ghost use Rattle.kit_top.specs.Causes.{IsCommand};
+ghost use Rattle.std.specs.Prelude.{◌↔◌, IfOk, IfSome, IfNone, IsTrue};
+ghost use Rattle.kit_top.specs.Causes.{IsCommand, IsFederationCommand};
 
 use crate::Word;
 use kit_schedule::{Schedule, schedule_of};
@@ -8,12 +8,62 @@ use std::alloc::{AllocError, Global};
 /// What the words of a command line ask for.
 #[derive(Debug, Drop)]
 pub enum Command {
+    /// What is asked of the federation of a file.
+    OnFederation(FederationCommand),
+    /// `regions`: a line for each region to which the federates of a file send, with the federates
+    /// that it reaches.
+    Regions,
+}
+
+/// What is asked of a federation.
+#[derive(Debug, Drop)]
+pub enum FederationCommand {
     /// `oracle`: the text of the sequential simulation.
     Oracle,
     /// `check`: how many buffers each federate needs, and whether there are enough.
     Check,
     /// `replay` and the words of a schedule: the text of the histories of a run with these turns.
     Replay(Schedule),
+}
+
+impl FederationCommand {
+    /// The command of these words, where they are one. It fails only for want of memory.
+    fn of(alloc: Global, words: &[Word]) -> Result<Option<FederationCommand>, AllocError>
+        ensures some { IfOk result
+            (λ found. IfSome found (λ command. IsFederationCommand words.now command)) }
+        ensures none { IfOk result (λ found. IfNone found
+            ((command : FederationCommand) → IsFederationCommand words.now command → ⊥)) }
+    {
+        let Some((first, rest)) = words.split_first() else {
+            return Ok(None);
+        };
+        if first.is("replay") {
+            return match schedule_of(alloc, rest)? {
+                Some(schedule) => Ok(Some(FederationCommand::Replay(schedule))),
+                None => Ok(None),
+            };
+        }
+        if !rest.is_empty() {
+            return Ok(None);
+        }
+        if first.is("oracle") {
+            return Ok(Some(FederationCommand::Oracle));
+        }
+        if first.is("check") {
+            return Ok(Some(FederationCommand::Check));
+        }
+        Ok(None)
+    }
+}
+
+/// Whether the words are those of `regions`.
+fn is_regions(words: &[Word]) -> bool
+    ensures { IsTrue result ↔ IsCommand words.now Command.Regions }
+{
+    match words {
+        [word] => word.is("regions"),
+        _ => false,
+    }
 }
 
 impl Command {
@@ -24,24 +74,12 @@ impl Command {
         ensures none { IfOk result
             (λ found. IfNone found ((command : Command) → IsCommand words.now command → ⊥)) }
     {
-        let Some((first, rest)) = words.split_first() else {
-            return Ok(None);
-        };
-        if first.is("replay") {
-            return match schedule_of(alloc, rest)? {
-                Some(schedule) => Ok(Some(Command::Replay(schedule))),
-                None => Ok(None),
-            };
+        if is_regions(words) {
+            return Ok(Some(Command::Regions));
         }
-        if !rest.is_empty() {
-            return Ok(None);
+        match FederationCommand::of(alloc, words)? {
+            Some(command) => Ok(Some(Command::OnFederation(command))),
+            None => Ok(None),
         }
-        if first.is("oracle") {
-            return Ok(Some(Command::Oracle));
-        }
-        if first.is("check") {
-            return Ok(Some(Command::Check));
-        }
-        Ok(None)
     }
 }

@@ -1,16 +1,49 @@
 //! What each command does.
 
-ghost use Rattle.std.specs.Prelude.{◌≡◌, ℕ, List};
+ghost use Rattle.std.specs.Prelude.{◌≡◌, ℕ, List, None};
 ghost use Rattle.kit_io.specs.Causes.{Rose};
-ghost use Rattle.kit_top.specs.Causes.{IsAnswered, IsCommand, IsEnded, IsNoCommand};
-ghost use Rattle.kit_top.specs.Causes.{Completes, OneCause};
+ghost use Rattle.kit_top.specs.Causes.{Causes, IsAnswered, IsCommand, IsEnded, IsFederationCommand};
+ghost use Rattle.kit_top.specs.Causes.{IsNoCommand, Told, Completes, OneCause};
 
 use crate::answers::tell_federation;
-use crate::input::read_input;
+use crate::input::{read_input, read_plan_input};
+use crate::regions::tell_regions;
 use crate::writing::tell;
-use crate::{Command, Ended, Status, Word};
+use crate::{Command, Ended, FederationCommand, Status, Word};
 use kit_io::{Sink, Source};
 use std::alloc::{AllocError, Global};
+
+/// Answers a command on a federation by that of the source's file.
+fn answer_on_federation<S: Source, K: Sink>(
+    alloc: Global,
+    command: &FederationCommand,
+    source: &mut S,
+    sink: &mut K,
+) -> Ended
+    ensures told { (words : List (List ℕ)) → IsFederationCommand words command.now
+        → IsEnded S.Source words source.old source.new
+        (K.holds sink.old) (K.holds sink.new) result }
+    ensures fault { result.status ≡ Status.WriteFault
+        → Rose (K.faults sink.old) (K.faults sink.new) }
+{
+    match read_input(alloc, source, sink) {
+        Ok(federation) => tell_federation(alloc, command, &federation, sink),
+        Err(status) => Ended::empty(alloc, status),
+    }
+}
+
+/// Answers `regions` by the plan of the source's file.
+fn answer_regions<S: Source, K: Sink>(alloc: Global, source: &mut S, sink: &mut K) -> Status
+    ensures told { (words : List (List ℕ)) → IsCommand words Command.Regions
+        → Told (Causes S.Source words source.old source.new None)
+        (K.holds sink.old) (K.holds sink.new) result }
+    ensures fault { result ≡ Status.WriteFault → Rose (K.faults sink.old) (K.faults sink.new) }
+{
+    match read_plan_input(alloc, source, sink) {
+        Ok(plan) => tell_regions(alloc, &plan, sink),
+        Err(status) => status,
+    }
+}
 
 /// Answers a command by the source's bytes.
 fn answer_command<S: Source, K: Sink>(
@@ -25,9 +58,9 @@ fn answer_command<S: Source, K: Sink>(
     ensures fault { result.status ≡ Status.WriteFault
         → Rose (K.faults sink.old) (K.faults sink.new) }
 {
-    match read_input(alloc, source, sink) {
-        Ok(federation) => tell_federation(alloc, command, &federation, sink),
-        Err(status) => Ended::empty(alloc, status),
+    match command {
+        Command::OnFederation(command) => answer_on_federation(alloc, command, source, sink),
+        Command::Regions => Ended::empty(alloc, answer_regions(alloc, source, sink)),
     }
 }
 
@@ -52,10 +85,11 @@ fn answer<S: Source, K: Sink>(alloc: Global, words: &[Word], source: &mut S, sin
 /// `oracle`, alone, writes the text of the file's sequential timestamp-ordered simulation, and
 /// `check` how many buffers each of its federates needs and whether there are enough. `replay` and
 /// the words of a schedule ([`schedule_of`](kit_schedule::schedule_of)) run the federates as nodes
-/// over one floor, with these turns, and write the text of the histories that the nodes report. The
-/// words are looked at first; then comes the reading of the source to its end, then its form, then
-/// the simulation or the run, and then the writing: a text is made whole before its first byte is
-/// written.
+/// over one floor, with these turns, and write the text of the histories that the nodes report.
+/// `regions`, alone, writes a line for each region of a file that has such, with the federates that
+/// it reaches, and nothing for another. The words are looked at first; then comes the reading of
+/// the source to its end, then its form, then the simulation or the run, and then the writing: a
+/// text is made whole before its first byte is written.
 pub fn plain<S: Source, K: Sink>(
     alloc: Global,
     words: &[Word],
@@ -63,7 +97,8 @@ pub fn plain<S: Source, K: Sink>(
     sink: &mut K,
 ) -> Ended
     // Done: what was written is what the command asks of the file: for `oracle` and `replay` the
-    // text of its sequential timestamp-ordered simulation, for `check` that of its needs.
+    // text of its sequential timestamp-ordered simulation, for `check` that of its needs, for
+    // `regions` the lines of its plan's regions, or nothing where it has no plan.
     ensures done { result.status ≡ Status.Done →
         IsAnswered S.Source words.now source.old source.new (K.holds sink.old) (K.holds sink.new) }
 

@@ -1,19 +1,42 @@
-//! The federation file of a source.
+//! What the bytes of a source say.
 
 ghost use Rattle.std.specs.Prelude.{◌≡◌, IfErr, IfOk, OnOk};
 ghost use Rattle.kit_io.specs.Causes.{Rose};
-ghost use Rattle.kit_top.specs.Causes.{InputCauses, IsInput, Told};
+ghost use Rattle.kit_top.specs.Causes.{InputCauses, IsInput, IsPlanInput, IsWhole, Told};
 
 use crate::Status;
 use crate::bad_file::tell_bad_file;
 use crate::writing::tell;
-use kit_file::read_federation;
+use kit_file::{read_federation, read_plan};
 use kit_io::{ReadEnd, Sink, Source, read_all};
+use kit_regions::Regioned;
 use kit_rules::Federation;
 use std::alloc::Global;
 
 /// The most bytes of an input.
 const MOST_BYTES: usize = 1_048_576;
+
+/// The bytes of the source, to its end; otherwise what is wrong is told, and its status is the
+/// error.
+fn read_bytes<S: Source, K: Sink>(
+    alloc: Global,
+    source: &mut S,
+    sink: &mut K,
+) -> Result<Vec<u8>, Status>
+    ensures whole { IfOk result (λ bytes. IsWhole S.Source source.old source.new bytes.items) }
+    ensures untouched { OnOk result (sink.new ≡ sink.old) }
+    ensures told { IfErr result
+        (Told (InputCauses S.Source source.old source.new) (K.holds sink.old) (K.holds sink.new)) }
+    ensures fault { IfErr result (λ status. status ≡ Status.WriteFault
+        → Rose (K.faults sink.old) (K.faults sink.new)) }
+{
+    match read_all(alloc, source, MOST_BYTES) {
+        Ok(bytes) => Ok(bytes),
+        Err(ReadEnd::NoMemory) => Err(Status::NoMemory),
+        Err(ReadEnd::TooLong) => Err(tell(sink, b"fault TooLong\n", Status::TooLong)),
+        Err(ReadEnd::ReadFault) => Err(tell(sink, b"fault ReadFault\n", Status::ReadFault)),
+    }
+}
 
 /// The federation of the source's file; otherwise what is wrong is told, and its status is the
 /// error.
@@ -29,13 +52,30 @@ pub(crate) fn read_input<S: Source, K: Sink>(
     ensures fault { IfErr result (λ status. status ≡ Status.WriteFault
         → Rose (K.faults sink.old) (K.faults sink.new)) }
 {
-    match read_all(alloc, source, MOST_BYTES) {
-        Ok(bytes) => match read_federation(alloc, &bytes) {
-            Ok(federation) => Ok(federation),
-            Err(fault) => Err(tell_bad_file(alloc, fault, sink)),
-        },
-        Err(ReadEnd::NoMemory) => Err(Status::NoMemory),
-        Err(ReadEnd::TooLong) => Err(tell(sink, b"fault TooLong\n", Status::TooLong)),
-        Err(ReadEnd::ReadFault) => Err(tell(sink, b"fault ReadFault\n", Status::ReadFault)),
+    let bytes = read_bytes(alloc, source, sink)?;
+    match read_federation(alloc, &bytes) {
+        Ok(federation) => Ok(federation),
+        Err(fault) => Err(tell_bad_file(alloc, fault, sink)),
+    }
+}
+
+/// The plan of the source's file, if it has one; where something is wrong that is told, and its
+/// status is the error.
+pub(crate) fn read_plan_input<S: Source, K: Sink>(
+    alloc: Global,
+    source: &mut S,
+    sink: &mut K,
+) -> Result<Option<Regioned>, Status>
+    ensures input { IfOk result (IsPlanInput S.Source source.old source.new) }
+    ensures untouched { OnOk result (sink.new ≡ sink.old) }
+    ensures told { IfErr result
+        (Told (InputCauses S.Source source.old source.new) (K.holds sink.old) (K.holds sink.new)) }
+    ensures fault { IfErr result (λ status. status ≡ Status.WriteFault
+        → Rose (K.faults sink.old) (K.faults sink.new)) }
+{
+    let bytes = read_bytes(alloc, source, sink)?;
+    match read_plan(alloc, &bytes) {
+        Ok(plan) => Ok(plan),
+        Err(fault) => Err(tell_bad_file(alloc, fault, sink)),
     }
 }

@@ -1,6 +1,7 @@
-//! Laws of what the commands with workers cause: each is the contract of a function that does
-//! nothing.
+//! Laws of what the commands with workers cause, and of files with regions: each is the contract of
+//! a function that does nothing.
 
+ghost use Rattle.kit_top.specs.Regions.{PlansAreSimulated};
 ghost use Rattle.kit_top.specs.WorkerLaws.{CompletesByWorkers, OneCauseByWorkers};
 
 use kit_io::Source;
@@ -19,4 +20,11 @@ pub fn one_cause_by_workers<S: Source>()
 /// whatever the source.
 pub fn completeness_by_workers<S: Source>()
     ensures { CompletesByWorkers S.Source }
+{}
+
+/// The simulation of the federation that a file of version 3 gives is that of its plan, in which a
+/// message goes where ranges overlap; so are its text, its needs and the federate that first takes
+/// number 16,385. What other promises say of the federation of a file, they say of its plan.
+pub fn plans_are_simulated()
+    ensures { PlansAreSimulated }
 {}

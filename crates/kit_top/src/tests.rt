@@ -2,7 +2,7 @@ mod files;
 mod workers;
 
 use super::*;
-use files::{FAULTS, NEEDS, RADAR, RADAR_FIRST, RADAR_LAST, REPLAYS, SHORT_STEP, TEXTS};
+use files::{FAULTS, NEEDS, RADAR, RADAR_FIRST, RADAR_LAST, REGIONS, REPLAYS, SHORT_STEP, TEXTS};
 use kit_io::{MemorySink, MemorySource};
 use std::alloc::{AllocError, Global};
 use std::test::*;
@@ -57,6 +57,11 @@ fn files_give_their_texts(rt: HostRuntime) -> Result<(), AllocError> {
         assert_eq!(rt; code, 0, "{file}");
         assert_eq!(rt; held.as_slice(), text.as_bytes(), "{file}");
     }
+    for (file, text) in REGIONS {
+        let (code, held) = run(rt.alloc(), "regions", file.as_bytes())?;
+        assert_eq!(rt; code, 0, "{file}");
+        assert_eq!(rt; held.as_slice(), text.as_bytes(), "{file}");
+    }
     Ok(())
 }
 
@@ -74,7 +79,7 @@ fn the_radar_runs_to_its_end(rt: HostRuntime) -> Result<(), AllocError> {
 fn faults_of_files_give_their_lines(rt: HostRuntime) -> Result<(), AllocError> {
     for (file, rest) in FAULTS {
         let line = format!(in rt.alloc(); "fault BadFile {rest}\n")?;
-        for word in ["oracle", "check"] {
+        for word in ["oracle", "check", "regions"] {
             let (code, held) = run(rt.alloc(), word, file.as_bytes())?;
             assert_eq!(rt; code, 5, "{word} {file}");
             assert_eq!(rt; held.as_slice(), line.as_bytes(), "{word} {file}");
@@ -168,6 +173,8 @@ fn other_words_are_a_usage_fault(rt: HostRuntime) -> Result<(), AllocError> {
         "Oracle",
         "check oracle",
         "checks",
+        "region",
+        "regions regions",
     ] {
         let (code, held) = run(rt.alloc(), line, b"")?;
         assert_eq!(rt; code, 2, "{line}");

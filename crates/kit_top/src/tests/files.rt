@@ -56,8 +56,22 @@ pub(crate) const RADAR_FIRST: &str =
 pub(crate) const RADAR_LAST: &str =
     "end radar\nend tower seen=236 last=29\nend p1 swept=59\nend p2 swept=59\nend p3 swept=59\nend p4 swept=59\nend logger heard=236 advised=9\n";
 
+/// Two regions, of which the first only touches the range of one of two federates.
+const NEAR_AND_WIDE: &str =
+    r#"{"version":3,"end":2,"buffers":2,"groups":[{"name":"map","subscribers":[{"federate":"b","from":0,"to":10},{"federate":"c","from":10,"to":20}]}],"regions":[{"name":"near","group":"map","from":5,"to":10},{"name":"wide","group":"map","from":5,"to":11}],"federates":[{"name":"a","lookahead":1,"advance":{"tar":2},"rules":[{"on":"start","do":[{"send":"near","delay":1,"value":1},{"send":"wide","delay":1,"value":2}]}]},{"name":"b","lookahead":1,"advance":{"tar":2},"vars":[{"name":"n","value":0}],"rules":[{"on":{"got":"map"},"do":[{"add":"n","by":"$value"}]}]},{"name":"c","lookahead":1,"advance":{"tar":2},"vars":[{"name":"n","value":0}],"rules":[{"on":{"got":"map"},"do":[{"add":"n","by":"$value"}]}]}]}"#;
+
+/// Files with the lines of their regions.
+pub(crate) const REGIONS: [(&str, &str); 3] = [
+    (
+        NEAR_AND_WIDE,
+        "region near map 5 10 b\nregion wide map 5 11 b c\n",
+    ),
+    (ONE_FEDERATE, ""),
+    (LISTENER, ""),
+];
+
 /// Files that are accepted, each with the text of its simulation.
-pub(crate) const TEXTS: [(&str, &str); 13] = [
+pub(crate) const TEXTS: [(&str, &str); 14] = [
     (ONE_FEDERATE, "1 a grant\n2 a grant\n3 a grant\nend a\n"),
     (WITH_A_NOTE, "1 a grant\n2 a grant\n3 a grant\nend a\n"),
     (
@@ -97,6 +111,10 @@ pub(crate) const TEXTS: [(&str, &str); 13] = [
     (
         NO_LISTENER,
         "1 b grant\n2 b grant\n3 b grant\n4 b grant\n5 a grant\n5 b grant\n6 b grant\n7 b grant\n8 b grant\n9 b grant\n10 a grant\n10 b grant\nend a\nend b\n",
+    ),
+    (
+        NEAR_AND_WIDE,
+        "2 a grant\n2 b got near a#1 @1 = 1\n2 b got wide a#2 @1 = 2\n2 b grant\n2 c got wide a#2 @1 = 2\n2 c grant\nend a\nend b n=3\nend c n=2\n",
     ),
 ];
 
@@ -152,7 +170,13 @@ const ONE_BUFFER_AT_ONCE: &str =
     r#"{"version":1,"end":4,"buffers":1,"groups":[{"name":"g","members":["b"]}],"federates":[{"name":"a","lookahead":2,"advance":{"tar":4},"vars":[{"name":"m","value":0}],"rules":[{"on":"start","do":[{"send":"g","delay":4,"value":9,"keep":"m"},{"retract":"m"}]}]},{"name":"b","lookahead":1,"advance":{"tar":4}}]}"#;
 
 /// Runs by workers, each by the words and the file, with the exit status and what is written.
-pub(crate) const RUNS: [(&str, &str, u8, &str); 12] = [
+pub(crate) const RUNS: [(&str, &str, u8, &str); 13] = [
+    (
+        "run 3",
+        NEAR_AND_WIDE,
+        0,
+        "2 a grant\n2 b got near a#1 @1 = 1\n2 b got wide a#2 @1 = 2\n2 b grant\n2 c got wide a#2 @1 = 2\n2 c grant\nend a\nend b n=3\nend c n=2\n",
+    ),
     (
         "run 2",
         TWO_BUFFERS,
@@ -222,12 +246,13 @@ pub(crate) const NEEDS: [(&str, &str); 7] = [
 ];
 
 /// Files with a fault, each with the rest of its line.
-pub(crate) const FAULTS: [(&str, &str); 15] = [
+pub(crate) const FAULTS: [(&str, &str); 17] = [
     (r#""#, "NotJson"),
     (r#"[]"#, "WrongKind ."),
     (r#"{}"#, "Missing version"),
     (r#"{"version":0}"#, "OutOfRange version"),
-    (r#"{"version":3}"#, "OutOfRange version"),
+    (r#"{"version":4}"#, "OutOfRange version"),
+    (r#"{"version":3}"#, "Missing end"),
     (r#"{"version":2}"#, "Missing end"),
     (r#"{"version":1,"end":0}"#, "OutOfRange end"),
     (
@@ -261,5 +286,9 @@ pub(crate) const FAULTS: [(&str, &str); 15] = [
     (
         r#"{"version":2,"end":10,"buffers":1,"federates":[{"name":"a","lookahead":5,"advance":{"tar":5}},{"name":"b","regulating":0,"advance":{"tar":1}}]}"#,
         "WrongKind federates[1].regulating",
+    ),
+    (
+        r#"{"version":3,"end":2,"buffers":2,"groups":[{"name":"map","subscribers":[{"federate":"b","from":0,"to":10},{"federate":"c","from":10,"to":20}]}],"regions":[{"name":"near","group":"map","from":5,"to":5},{"name":"wide","group":"map","from":5,"to":11}],"federates":[{"name":"a","lookahead":1,"advance":{"tar":2},"rules":[{"on":"start","do":[{"send":"near","delay":1,"value":1},{"send":"wide","delay":1,"value":2}]}]},{"name":"b","lookahead":1,"advance":{"tar":2},"vars":[{"name":"n","value":0}],"rules":[{"on":{"got":"map"},"do":[{"add":"n","by":"$value"}]}]},{"name":"c","lookahead":1,"advance":{"tar":2},"vars":[{"name":"n","value":0}],"rules":[{"on":{"got":"map"},"do":[{"add":"n","by":"$value"}]}]}]}"#,
+        "OutOfRange regions[0].to",
     ),
 ];

@@ -1,5 +1,5 @@
 use Rattle.std.proofs.Common.{◌∙◌}
-use Rattle.kit_top.specs.declared.command.Command.TheVariants.{Check}
+use Rattle.kit_top.specs.declared.command.FederationCommand.TheVariants.{Check}
 use Rattle.kit_top.specs.declared.status.Status.TheVariants.{Done}
 use Rattle.kit_top.specs.Causes.{OracleEndCauses, SimulationCauses}
 use Rattle.kit_top.proofs.Telling.{oracle_causes, told_by, told_weaker}
