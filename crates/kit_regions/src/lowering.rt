@@ -1,6 +1,7 @@
 //! The federation of a plan.
 
-ghost use Rattle.std.specs.Prelude.{◌≡◌, ◌↔◌, ◌≤◌, ◌++◌, ℕ, Some, None, Err, OnOk, IfOk, length, map};
+ghost use Rattle.std.specs.Prelude.{◌≡◌, ◌↔◌, ◌≤◌, ◌++◌, ℕ, Some, None, Err, OnOk, IfOk};
+ghost use Rattle.std.specs.Prelude.{length, map};
 ghost use Rattle.kit_rules.specs.declared.table.Trigger.TheVariants.{Got};
 ghost use Rattle.kit_regions.specs.declared.lowering.RegionEnd.TheVariants.{TooManyRules, NoMemory};
 ghost use Rattle.kit_regions.specs.Limits.{most_updates};
@@ -174,7 +175,8 @@ fn lower_groups(alloc: Global, plan: &Regioned) -> Result<Items<Group>, AllocErr
 pub fn lower(alloc: Global, plan: &Regioned) -> Result<Federation, RegionEnd>
     ensures made { IfOk result (λ federation. federation ≡ federation_of plan.now) }
     ensures fits { OnOk result (crowded_federate plan.now ≡ None) }
-    ensures crowded { (i : ℕ) → result ≡ Err (TooManyRules i) ↔ (crowded_federate plan.now ≡ Some i) }
+    ensures crowded { (i : ℕ) → result ≡ Err (TooManyRules i)
+        ↔ (crowded_federate plan.now ≡ Some i) }
 {
     if let Some(federate) = crowded(plan) {
         return Err(RegionEnd::TooManyRules { federate });
