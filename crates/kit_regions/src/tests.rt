@@ -1,8 +1,7 @@
 use super::*;
 use kit_base::Items;
-use kit_rules::{Action, Federate, Federation, Name, Operand, Rule, Trigger, Wish, receivers};
+use kit_rules::{Action, Federate, Name, Operand, Rule, Trigger, Wish};
 use std::alloc::{AllocError, Global};
-use std::process::Abort;
 use std::test::Fail;
 
 fn range(from: u32, to: u32) -> Range {
@@ -123,18 +122,6 @@ impl Parts {
             self.federates.as_slice(),
         )
     }
-
-    fn plan(self, rt: &impl Abort) -> Regioned {
-        assert!(rt; self.are_plan());
-        Regioned::new(
-            2,
-            2,
-            self.groups,
-            self.updates,
-            self.subscriptions,
-            self.federates,
-        )
-    }
 }
 
 #[test]
@@ -144,23 +131,6 @@ fn ranges_that_only_touch_do_not_overlap(rt: HostRuntime) -> Result<(), Fail> {
     assert!(rt; overlap(range(0, 11), range(10, 20)));
     assert!(rt; overlap(range(12, 13), range(10, 20)));
     assert!(rt; overlap(range(10, 20), range(12, 13)));
-    Ok(())
-}
-
-#[test]
-fn an_update_reaches_whoever_overlaps(rt: HostRuntime) -> Result<(), Fail> {
-    let alloc = rt.alloc();
-    let updates = [
-        update(alloc, "near", 0, range(5, 10))?,
-        update(alloc, "wide", 0, range(5, 11))?,
-        update(alloc, "elsewhere", 1, range(5, 11))?,
-    ];
-    let subscriptions = [
-        subscription(0, 1, range(0, 10)),
-        subscription(0, 2, range(10, 20)),
-    ];
-    let masks = match_all(alloc, &updates, &subscriptions)?;
-    assert_eq!(rt; masks.as_slice(), [2, 6, 0].as_slice());
     Ok(())
 }
 
@@ -227,65 +197,5 @@ fn rules_are_on_groups_and_send_to_updates(rt: HostRuntime) -> Result<(), Fail> 
     ] {
         assert_eq!(rt; takes_rule(rt.alloc(), on, update)?, wanted, "{update}");
     }
-    Ok(())
-}
-
-#[test]
-fn a_group_has_256_subscriptions(rt: HostRuntime) -> Result<(), Fail> {
-    for (count, wanted) in [(256, true), (257, false)] {
-        let mut parts = Parts::near_and_wide(rt.alloc(), 1)?;
-        while parts.subscriptions.len() < count {
-            let more = subscription(0, 1, range(0, 1));
-            parts.subscriptions.push(more)?;
-        }
-        assert_eq!(rt; parts.are_plan(), wanted, "{count}");
-    }
-    Ok(())
-}
-
-fn lowered(rt: &impl Abort, alloc: Global, rules: usize) -> Result<Federation, RegionEnd> {
-    lower(alloc, &Parts::near_and_wide(alloc, rules)?.plan(rt))
-}
-
-#[test]
-fn a_rule_on_got_becomes_one_for_each_update(rt: HostRuntime) -> Result<(), Fail> {
-    let Ok(federation) = lowered(&rt, rt.alloc(), 2) else {
-        assert!(rt; false, "not lowered");
-        return Ok(());
-    };
-    for (sender, update, members) in [(0, 0, 2), (0, 1, 6), (1, 1, 4), (2, 0, 2), (0, 2, 0)] {
-        assert_eq!(rt;
-            receivers(&federation, sender, update),
-            members,
-            "{sender} {update}"
-        );
-    }
-    let federates = federation.federates();
-    assert_eq!(rt; federates.len(), 3);
-    let rules = federates[1].rules.as_slice();
-    assert_eq!(rt; rules.len(), 4);
-    for (k, group) in [0, 1, 0, 1].iter().enumerate() {
-        assert_eq!(rt; rules[k].on, Trigger::Got { group: *group }, "{k}");
-    }
-    assert_eq!(rt; federates[0].rules.len(), 1);
-    Ok(())
-}
-
-#[test]
-fn the_first_federate_with_too_many_rules_is_named(rt: HostRuntime) -> Result<(), Fail> {
-    assert!(rt; lowered(&rt, rt.alloc(), 32).is_ok());
-    match lowered(&rt, rt.alloc(), 33) {
-        Err(end) => assert_eq!(rt; end, RegionEnd::TooManyRules { federate: 1 }),
-        Ok(_) => assert!(rt; false, "66 rules"),
-    }
-    Ok(())
-}
-
-#[test]
-fn each_update_has_a_line(rt: HostRuntime) -> Result<(), Fail> {
-    let plan = Parts::near_and_wide(rt.alloc(), 1)?.plan(&rt);
-    let text = region_text(rt.alloc(), &plan)?;
-    let wanted = b"region near map 5 10 b\nregion wide map 5 11 b c\n";
-    assert_eq!(rt; text.as_slice(), wanted.as_slice());
     Ok(())
 }
