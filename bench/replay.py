@@ -92,10 +92,9 @@ def sending(count, members):
     return federation(1000, federates, groups)
 
 
-def waiting(lookahead):
-    """No messages: the bound rises by the lookahead with each round, up to the end time."""
-    federates = [federate("f%d" % i, lookahead, {"ner": 100000}) for i in range(16)]
-    return federation(100000, federates, [])
+def stepping(end):
+    """No messages: each federate asks for the next unit of time, so each has one round."""
+    return federation(end, [federate("f%d" % i, 1, {"tar": 1}) for i in range(16)], [])
 
 
 def fair(passes):
@@ -131,19 +130,19 @@ def replay_seconds(made, repetitions, more=0):
 
 def figures(repetitions):
     """Prints nanoseconds for a turn, a message, a further receiver and a round."""
-    once, turns = replay_seconds(waiting(100000), repetitions)
-    often, more_turns = replay_seconds(waiting(100000), repetitions, 500_000)
+    once, turns = replay_seconds(stepping(2), repetitions)
+    often, more_turns = replay_seconds(stepping(2), repetitions, 500_000)
     idle_turn = (often - once) / (more_turns - turns)
-    few, few_turns = replay_seconds(waiting(20), repetitions)
-    many, many_turns = replay_seconds(waiting(2), repetitions)
-    rounds = 100000 // 2 - 100000 // 20
+    few, few_turns = replay_seconds(stepping(10_000), repetitions)
+    many, many_turns = replay_seconds(stepping(50_000), repetitions)
+    rounds = 50_000 - 10_000
     none, _ = replay_seconds(sending(0, 1), repetitions)
     one, _ = replay_seconds(sending(8, 1), repetitions)
     all_others, _ = replay_seconds(sending(8, 15), repetitions)
     messages = 16 * 8 * 1000
     for name, seconds in (
         ("a turn of a node that has finished", idle_turn),
-        ("a round among 16, with its turns", (many - few) / rounds),
+        ("a round among 16, with their grants", (many - few) / rounds),
         ("a turn of such a round", (many - few) / (many_turns - few_turns)),
         ("a message with one receiver", (one - none) / messages),
         ("each further receiver", (all_others - one) / messages / 14),
