@@ -17,8 +17,9 @@ pub enum JournalEntry {
     /// An Event was given to the federate's rules.
     Delivered {
         /// The time of the grant with which it was delivered: the message's own time or a later
-        /// one.
-        granted: u64,
+        /// one. In four bytes, so that an entry is no larger than it must be: a journal has one
+        /// for each delivery.
+        granted: u32,
         /// The Event.
         message: Message,
     },
@@ -111,7 +112,7 @@ fn line_of(federate: u8, entry: &JournalEntry) -> Option<Line>
     match entry {
         JournalEntry::Received { .. } => None,
         JournalEntry::Delivered { granted, message } => Some(Line::Deliver {
-            granted: *granted,
+            granted: *granted as u64,
             federate,
             message: *message,
         }),

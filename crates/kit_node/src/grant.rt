@@ -2,6 +2,7 @@
 
 ghost use Rattle.std.specs.Prelude.{◌≡◌, ◌<◌, ◌≤◌, ◌++◌, ℕ, [], ◌∷◌, length, take, drop, IfSome};
 ghost use Rattle.std.specs.Prelude.{IfNone, OnOk, IfOk, IfErr};
+ghost use Rattle.kit_rules.specs.Limits.{most_time};
 ghost use Rattle.kit_rules.specs.Simulation.{after_deliveries};
 ghost use Rattle.kit_lbts.specs.SeatLaws.{IsInWorld};
 ghost use Rattle.kit_node.specs.Granting.{IsRefusal, behind_due, block_entries, front_due};
@@ -91,12 +92,13 @@ fn deliver_all<Q: Order>(
 
 /// Enters the deliveries of a grant, and then the grant.
 fn enter(journal: &mut Journal, due: &[Message], granted: u64)
-    requires { length due.now < journal.old.spare }
+    requires spare { length due.now < journal.old.spare }
+    requires time { granted ≤ most_time }
     ensures { journal.new.entries ≡ journal.old.entries ++ block_entries granted due.now }
 {
     for message in due {
         journal.push(JournalEntry::Delivered {
-            granted,
+            granted: granted as u32,
             message: *message,
         });
     }

@@ -53,7 +53,7 @@ fn time_of(entry: &JournalEntry) -> Option<u64>
 {
     match entry {
         JournalEntry::Received { .. } => None,
-        JournalEntry::Delivered { granted, .. } => Some(*granted),
+        JournalEntry::Delivered { granted, .. } => Some(*granted as u64),
         JournalEntry::Granted { time } => Some(*time),
     }
 }
@@ -108,7 +108,7 @@ fn tell_entry(
         JournalEntry::Received { .. } => Ok(false),
         JournalEntry::Delivered { granted, message } => {
             let line = Line::Deliver {
-                granted,
+                granted: granted as u64,
                 federate,
                 message,
             };

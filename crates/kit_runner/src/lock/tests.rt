@@ -43,7 +43,7 @@ fn entered(alloc: Global, report: &NodeReport, federate: u8) -> Result<Vec<Line>
         match *entry {
             JournalEntry::Received { .. } => {}
             JournalEntry::Delivered { granted, message } => lines.push(Line::Deliver {
-                granted,
+                granted: granted as u64,
                 federate,
                 message,
             })?,
