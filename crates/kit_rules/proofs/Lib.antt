@@ -13,3 +13,4 @@ pub mod ReceiverMasks
 pub mod TakenBack
 pub mod Timely
 pub mod FirstFaults
+pub mod Restoring

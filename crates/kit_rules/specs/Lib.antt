@@ -12,3 +12,4 @@ pub mod Fits
 pub mod Text
 pub mod Laws
 pub mod Faults
+pub mod Own

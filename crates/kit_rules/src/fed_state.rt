@@ -1,17 +1,19 @@
 ghost use Rattle.std.specs.Prelude.{◌≡◌, ℕ, true, false, ◌<◌, ◌≤◌, ◌+◌, [], ◌∷◌, ◌++◌, length};
-ghost use Rattle.std.specs.Prelude.{take, drop, slice_index, slice_set, OnOk, OnErr, All};
+ghost use Rattle.std.specs.Prelude.{take, drop, slice_index, slice_set, OnOk, OnErr, IfOk, All};
 ghost use Rattle.std.specs.List.{list_any};
 ghost use Rattle.kit_rules.specs.Limits.{most_time, most_vars};
+ghost use Rattle.kit_rules.specs.Own.{own_events, restored_state, IsNumberedBelow};
 ghost use Rattle.kit_rules.specs.Parts.{federate_at};
 ghost use Rattle.kit_rules.specs.Running.{ComesTo};
 ghost use Rattle.kit_rules.specs.Step.{is_event, takes_back, after_action, after_rules, CanRun};
 ghost use Rattle.kit_rules.specs.Step.{opening_state, opening_vars};
 
 use crate::marks::target;
+use crate::own::{own_events, restored_sends};
 use crate::running::apply_rules;
-use crate::{Action, ApplyEnd, Federation, Rule, Scene, State, Trigger, Var, Wish};
+use crate::{Action, ApplyEnd, Federation, Own, Rule, Scene, State, Trigger, Var, Wish};
 use kit_base::{Items, Kind, Message};
-use std::alloc::Global;
+use std::alloc::{AllocError, Global};
 use std::marker::Model;
 
 /// The state of a federate, which contracts see as a [`State`]: its variables, wish, next number
@@ -53,6 +55,42 @@ impl FedState {
             },
             marks: Vec::new(alloc),
         }
+    }
+
+    /// The state of a federate with these values, of whose sends below `next` these Events alone are
+    /// known: a Retraction can name no other. It fails only for want of memory.
+    pub fn restored(
+        alloc: Global,
+        federate: u8,
+        vars: [u32; 8],
+        wish: Wish,
+        next: u16,
+        own: &[Own],
+    ) -> Result<FedState, AllocError>
+        requires low { 1 ≤ next }
+        requires high { next ≤ 16385 }
+        requires numbers { All (IsNumberedBelow next) own.now }
+        ensures { IfOk result (λ state. state ≡ restored_state federate vars wish next own.now) }
+    {
+        let sends = restored_sends(alloc, federate, next, own)?;
+        let mut marks = Vec::new(alloc);
+        marks.resize(sends.len(), 0)?;
+        let sends = Items::from_vec(sends);
+        let state = State {
+            vars,
+            wish,
+            next,
+            sends,
+        };
+        Ok(FedState { state, marks })
+    }
+
+    /// The Events that it sent and no Retraction names, in the order of their numbers. It fails only
+    /// for want of memory.
+    pub fn own(&self, alloc: Global) -> Result<Items<Own>, AllocError>
+        ensures { IfOk result (λ own. own ≡ own_events self.now.sends) }
+    {
+        own_events(alloc, self.state.sends.as_slice(), self.marks.as_slice())
     }
 
     /// The values of the variables, in the order of the table, and 0 in the places that are left.

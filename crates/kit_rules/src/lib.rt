@@ -10,6 +10,7 @@ mod laws;
 mod limits;
 mod marks;
 mod name;
+mod own;
 mod running;
 mod scene;
 mod table;
@@ -32,6 +33,7 @@ pub use limits::{
     is_wish, names_differ, obeys,
 };
 pub use name::{MOST_NAME_BYTES, Name, is_name};
+pub use own::Own;
 pub use running::apply;
 use scene::Scene;
 pub use scene::{ApplyEnd, State};

@@ -17,7 +17,7 @@ fn names(message: &Message, number: u32) -> bool
 
 /// Whether a Retraction among the sends names this number. A mark is believed only where the
 /// send that it points to is such a Retraction, so a mark that outlived its send does no harm.
-fn is_taken_back(sends: &[Message], marks: &[u16], number: u32) -> bool
+pub(crate) fn is_taken_back(sends: &[Message], marks: &[u16], number: u32) -> bool
     requires marked { AreMarked sends.now marks.now }
     requires low { 1 ≤ number }
     requires high { number ≤ length sends.now }
