@@ -146,9 +146,10 @@ impl<Q: Order + Drop, R: Reduction + Drop> Node<Q, R> {
         self.run_block(federation, due)?;
         self.course.state.keeps_its_count();
         show_time(ground, self.me, due);
+        let end = federation.end();
         enter(&mut self.journal, &self.due, due);
         self.due.clear();
-        self.course.stand_at(due, federation.end());
+        self.course.stand_at(due, end);
         Ok(true)
     }
 

@@ -66,7 +66,7 @@ pub stand_at-requires : goal.stand_at-requires
 stand_at-requires g c =
     let within = request_duein (shows g.Q.Order.entries g.R.Reduction.scheme g.R.Reduction.state) c.args.federation.now c.args.self.now (g.G.Ground.place c.args.ground.now) c.requires.world c.requires.federation c.requires.mirrors
     c.in-Some.due c.in-Some.ensures.some c.requires.early in
-    omega (arith, within, c.end.ensures.value, c.end.ensures.high)
+    omega (arith, within, c.end-end.ensures.value, c.end-end.ensures.high)
 
 -- the place is that of the grant
 placed : (p q : P) (me d : ℕ) → me ≡ p.own.number → d ≡ due_of p.client → q ≡ place_after view_after (Published (clock_of me) d) p → q ≡ granted_place p
@@ -110,3 +110,9 @@ returns-clause-granted g c =
       one = λ _. (may, placed p q n.me c.in-Some.due r.mirrors.me due c.show_time.ensures.place);
       none = λ e. absurd (true≢false e);
     }
+
+pub enter-requires-clause-time : goal.enter-requires-clause-time
+enter-requires-clause-time g c =
+    let by_the_end : c.in-Some.due ≤ c.args.federation.now.end =
+    request_duein (shows g.Q.Order.entries g.R.Reduction.scheme g.R.Reduction.state) c.args.federation.now c.args.self.now (g.G.Ground.place c.args.ground.now) c.requires.world c.requires.federation c.requires.mirrors c.in-Some.due c.in-Some.ensures.some c.requires.early in
+    omega (arith, by_the_end, c.end-end.ensures.value, c.end-end.ensures.high)
