@@ -88,7 +88,7 @@ started_fits p a (suc n) f le =
     (gained_fits p a 0 (opening_state (federate_at p a)) (seat_at_start p a).state lt (grows_by_start p a) (kept_by_start p a f lt) tt)
     (started_fits p (a + 1) n f (omega arith))
 
-started_fit : (p : Parts) → IsFederation p → Fit p (world_at_start p)
+pub started_fit : (p : Parts) → IsFederation p → Fit p (world_at_start p)
 started_fit p f = record {
   messages = started_fits p 0 (length p.federates) f (omega arith);
   blocks = tt;
@@ -104,7 +104,7 @@ fit_once p last w (Some g) f r fit e =
     let gr = grants p last w g r e in
     (g, granted_reached p last w g f r e, granted_fit p w g f gr.within (omega (arith, gr.within, r.count)) fit)
 
-fit_after : (p : Parts) (last : ℕ × ℕ) (w : World) (n : ℕ) → IsFederation p → Reached p last w → Fit p w → (l : ℕ × ℕ) × Reached p l (after_grants p n w) × Fit p (after_grants p n w)
+pub fit_after : (p : Parts) (last : ℕ × ℕ) (w : World) (n : ℕ) → IsFederation p → Reached p last w → Fit p w → (l : ℕ × ℕ) × Reached p l (after_grants p n w) × Fit p (after_grants p n w)
 fit_after p last w zero f r fit = (last, r, fit)
 fit_after p last w (suc n) f r fit = let o = fit_once p last w (next_grant p w) f r fit refl in fit_after p o.0 (next_world p w) n f o.1 o.2
 

@@ -21,7 +21,7 @@ use Rattle.kit_oracle.proofs.Starting.{Backward, LowerThan, Timed, Told, told, n
 use Rattle.kit_oracle.proofs.Showing.{AreFresh}
 
 -- what holds of all holds of one among them
-all_at : (P : Message → Type 0) (xs ys : List Message) (m : Message) → AllByRecursion P (xs ++ m ∷ ys) → P m
+pub all_at : (P : Message → Type 0) (xs ys : List Message) (m : Message) → AllByRecursion P (xs ++ m ∷ ys) → P m
 all_at P [] ys m h = h.0
 all_at P (x ∷ xs) ys m h = all_at P xs ys m h.1
 
@@ -75,12 +75,12 @@ fresh_from v ss xs (m ∷ ms) t split lt h =
     )
 
 -- the seats of a list from what is known at each place
-all_seats : (P : Seat → Type 0) (ss : List Seat) → ((k : ℕ) → k < length ss → P (get_or ss k nobody_seated)) → AllByRecursion P ss
+pub all_seats : (P : Seat → Type 0) (ss : List Seat) → ((k : ℕ) → k < length ss → P (get_or ss k nobody_seated)) → AllByRecursion P ss
 all_seats P [] h = tt
 all_seats P (s ∷ ss) h = (h 0 (omega arith), all_seats P ss (λ k lt. h (suc k) (omega arith)))
 
 -- what holds of all seats and of a new one holds when it is set
-all_set : (P : Seat → Type 0) (ss : List Seat) (k : ℕ) (s : Seat) → P s → AllByRecursion P ss → AllByRecursion P (set ss k s)
+pub all_set : (P : Seat → Type 0) (ss : List Seat) (k : ℕ) (s : Seat) → P s → AllByRecursion P ss → AllByRecursion P (set ss k s)
 all_set P [] k s here h = tt
 all_set P (x ∷ ss) zero s here h = (here, h.1)
 all_set P (x ∷ ss) (suc k) s here h = (h.0, all_set P ss k s here h.1)
@@ -98,7 +98,7 @@ had_lower w k n ss (m ∷ ms) h num le =
     (each_weaker (Had w) (λ (s : Seat). AllByRecursion (LowerThan m) s.got) ss (λ s b. lower_of_below w m s.got here b) h, had_lower w k (n + 1) ss ms h num.2 (omega arith))
 
 -- messages that are numbered have one sender
-sent_by : (k n bound : ℕ) (ms : List Message) → AreNumbered k n ms → k < bound → AllByRecursion (λ (m : Message). m.sender < bound) ms
+pub sent_by : (k n bound : ℕ) (ms : List Message) → AreNumbered k n ms → k < bound → AllByRecursion (λ (m : Message). m.sender < bound) ms
 sent_by k n bound [] num lt = tt
 sent_by k n bound (m ∷ ms) num lt = ((let is : m.sender ≡ k = num.0 in omega arith), sent_by k (n + 1) bound ms num.2 lt)
 
@@ -132,7 +132,7 @@ none_had p m a zero = tt
 none_had p m a (suc n) = (tt, none_had p m (a + 1) n)
 
 -- what holds of each message holds of a list
-for_all : (P : Message → Type 0) (ms : List Message) → ((m : Message) → P m) → AllByRecursion P ms
+pub for_all : (P : Message → Type 0) (ms : List Message) → ((m : Message) → P m) → AllByRecursion P ms
 for_all P [] f = tt
 for_all P (m ∷ ms) f = (f m, for_all P ms f)
 

@@ -1,17 +1,17 @@
-mod Observed
-mod Later
-mod Fronts
-mod Posts
-mod Numbering
-mod Starting
-mod Removing
-mod Keeping
-mod Entering
-mod Showing
-mod Delivering
-mod Rounds
-mod Freshness
-mod Progress
-mod Outstanding
-mod Rows
-mod Split
+pub mod Observed
+pub mod Later
+pub mod Fronts
+pub mod Posts
+pub mod Numbering
+pub mod Starting
+pub mod Removing
+pub mod Keeping
+pub mod Entering
+pub mod Showing
+pub mod Delivering
+pub mod Rounds
+pub mod Freshness
+pub mod Progress
+pub mod Outstanding
+pub mod Rows
+pub mod Split

@@ -87,7 +87,7 @@ next_fits p n ds g s next =
     (omega (arith, fine.0, s.sane.count), fine.1)
 
 -- so many grants, and then so many more
-after_more : (p : Parts) (a b n : ℕ) (w : World) → a + b ≡ n → after_grants p n w ≡ after_grants p b (after_grants p a w)
+pub after_more : (p : Parts) (a b n : ℕ) (w : World) → a + b ≡ n → after_grants p n w ≡ after_grants p b (after_grants p a w)
 after_more p zero b n w e = ap (λ (k : ℕ). after_grants p k w) (let is : n ≡ b = omega arith in is)
 after_more p (suc a) b zero w e = absurd (omega arith)
 after_more p (suc a) b (suc n) w e = after_more p a b n (next_world p w) (omega arith)
@@ -103,13 +103,13 @@ over_here p n le next =
     sym (after_more p n (most - n) most (world_at_start p) (omega arith) ∙ after_none p (most - n) (after_grants p n (world_at_start p)) next)
 
 -- one more turn is one more grant
-one_more : (p : Parts) (n : ℕ) (g : ℕ × ℕ) → next_grant p (after_grants p n (world_at_start p)) ≡ Some g → after_grants p (n + 1) (world_at_start p) ≡ world_after_grant p (after_grants p n (world_at_start p)) g
+pub one_more : (p : Parts) (n : ℕ) (g : ℕ × ℕ) → next_grant p (after_grants p n (world_at_start p)) ≡ Some g → after_grants p (n + 1) (world_at_start p) ≡ world_after_grant p (after_grants p n (world_at_start p)) g
 one_more p n g next =
     let w = after_grants p n (world_at_start p) in
     ap (λ (k : ℕ). after_grants p k (world_at_start p)) (add-one n) ∙ after_suc p n (world_at_start p) ∙ ap (world_after_pair p w) next
 
 -- one more block has its lines last
-lines_more : (bs : List Block) (b : Block) → lines_of (bs ++ b ∷ []) ≡ lines_of bs ++ block_lines b
+pub lines_more : (bs : List Block) (b : Block) → lines_of (bs ++ b ∷ []) ≡ lines_of bs ++ block_lines b
 lines_more bs b = flat_map-append block_lines bs (b ∷ []) ∙ ap (λ ls. lines_of bs ++ ls) (append-nil (block_lines b))
 
 -- what is at the front of the queue of the federate that is granted
@@ -167,12 +167,12 @@ granted_shows p n ds es g f s next de room =
     }
 
 -- nothing is found in a list that begins with nothing found
-none_found : (b : Bool) (m : Message) (r : Option Message) → cond b (Some m) r ≡ None → (b ≡ false) × (r ≡ None)
+pub none_found : (b : Bool) (m : Message) (r : Option Message) → cond b (Some m) r ≡ None → (b ≡ false) × (r ≡ None)
 none_found true m r e = absurd (cc)
 none_found false m r e = (refl, e)
 
 -- nor in a part of one in which nothing is
-none_among : (q : Message → Bool) (ms : List Message) → find is_spent ms ≡ None → find is_spent (filter q ms) ≡ None
+pub none_among : (q : Message → Bool) (ms : List Message) → find is_spent ms ≡ None → find is_spent (filter q ms) ≡ None
 none_among q [] h = refl
 none_among q (m ∷ ms) h =
     let f = none_found (is_spent m) m (find is_spent ms) h in
@@ -181,7 +181,7 @@ none_among q (m ∷ ms) h =
     [ true ↦ ap (λ b. cond b (Some m) (find is_spent (filter q ms))) f.0 ∙ rest | false ↦ rest ]
 
 -- numbers that go on up to there, and do not take 16,385, stop below it
-numbers_stop : (k n : ℕ) (ms : List Message) → AreNumbered k n ms → n ≤ 16385 → find is_spent ms ≡ None → n + length ms ≤ 16385
+pub numbers_stop : (k n : ℕ) (ms : List Message) → AreNumbered k n ms → n ≤ 16385 → find is_spent ms ≡ None → n + length ms ≤ 16385
 numbers_stop k n [] num le none = omega arith
 numbers_stop k n (m ∷ ms) num le none =
     let f = none_found (is_spent m) m (find is_spent ms) none in
@@ -191,7 +191,7 @@ numbers_stop k n (m ∷ ms) num le none =
     ]
 
 -- so where nobody has taken number 16,385, the next number of each federate is that at most
-room_left : (p : Parts) (n k : ℕ) → IsFederation p → k < length (after_grants p n (world_at_start p)).seats → find is_spent (after_grants p n (world_at_start p)).messages ≡ None
+pub room_left : (p : Parts) (n k : ℕ) → IsFederation p → k < length (after_grants p n (world_at_start p)).seats → find is_spent (after_grants p n (world_at_start p)).messages ≡ None
     → (seat_at (after_grants p n (world_at_start p)) k).state.next ≤ 16385
 room_left p n k f lt none =
     let w = after_grants p n (world_at_start p) in

@@ -22,7 +22,7 @@ use Rattle.kit_oracle.proofs.Starting.{Timed, retraction_by_key}
 use Rattle.kit_oracle.proofs.Entering.{enter_new, front_is_due, behind_is_left}
 
 -- a request is due at the front of what is in order
-due_shown : (r : Request) (ms : List Message) → request_due r (first_time (in_order ms)) ≡ due_time r ms
+pub due_shown : (r : Request) (ms : List Message) → request_due r (first_time (in_order ms)) ≡ due_time r ms
 due_shown (request.Tar t) ms = refl
 due_shown (request.Ner t) ms = sym (due_is_first t ms)
 
@@ -39,7 +39,7 @@ length_shown p sent i [] = refl
 length_shown p sent i (s ∷ ss) = ap suc (length_shown p sent (i + 1) ss)
 
 -- the desk at a place shows the seat there
-at_shown : (p : Parts) (sent : List Message) (a k n : ℕ) (ss : List Seat) → a + k ≡ n → k < length ss → get_or (desks_of_seats_from p sent a ss) k nobody_there ≡ desk_of_seat p sent n (get_or ss k nobody_seated)
+pub at_shown : (p : Parts) (sent : List Message) (a k n : ℕ) (ss : List Seat) → a + k ≡ n → k < length ss → get_or (desks_of_seats_from p sent a ss) k nobody_there ≡ desk_of_seat p sent n (get_or ss k nobody_seated)
 at_shown p sent a k n [] e lt = absurd (omega arith)
 at_shown p sent a zero n (s ∷ ss) e lt = ap (λ i. desk_of_seat p sent i s) (let is : a ≡ n = omega arith in is)
 at_shown p sent a (suc k) n (s ∷ ss) e lt = at_shown p sent (a + 1) k n ss (omega arith) (omega arith)
@@ -76,31 +76,31 @@ no_bit : (j : ℕ) → has_bit 0 j ≡ false
 no_bit j = ap (λ (n : ℕ). nat_eq (n % 2) 1) (zero-div (2 ^ j))
 
 -- a message reaches a federate that receives it, if it is transported
-bit_reached : (p : Parts) (m : Message) (j : ℕ) → has_bit (receiver_mask p m) j ≡ (is_transported p m && has_bit (receivers_of p m.sender m.group) j)
+pub bit_reached : (p : Parts) (m : Message) (j : ℕ) → has_bit (receiver_mask p m) j ≡ (is_transported p m && has_bit (receivers_of p m.sender m.group) j)
 bit_reached p m j =
     elim (is_transported p m) as (λ b. has_bit (cond b (receivers_of p m.sender m.group) 0) j ≡ (b && has_bit (receivers_of p m.sender m.group) j)) [ true ↦ refl | false ↦ no_bit j ]
 
 -- where neither test passes
-or_false : (a b : Bool) → (a || b) ≡ false → (a ≡ false) × (b ≡ false)
+pub or_false : (a b : Bool) → (a || b) ≡ false → (a ≡ false) × (b ≡ false)
 or_false true b h = absurd (cc)
 or_false false b h = (refl, h)
 
 -- where none passes each fails
-none_among : (q : Message → Bool) (xs : List Message) → list_any q xs ≡ false → AllByRecursion (λ x. q x ≡ false) xs
+pub none_among : (q : Message → Bool) (xs : List Message) → list_any q xs ≡ false → AllByRecursion (λ x. q x ≡ false) xs
 none_among q [] h = tt
 none_among q (x ∷ xs) h = let e = or_false (q x) (list_any q xs) h in (e.0, none_among q xs e.1)
 
 -- where each fails none passes
-all_among : (q : Message → Bool) (xs : List Message) → AllByRecursion (λ x. q x ≡ false) xs → list_any q xs ≡ false
+pub all_among : (q : Message → Bool) (xs : List Message) → AllByRecursion (λ x. q x ≡ false) xs → list_any q xs ≡ false
 all_among q [] h = refl
 all_among q (x ∷ xs) h = rw h.0 (all_among q xs h.1)
 
 -- what is pending is among what was sent
-among : (P : Message → Type 0) (p : Parts) (j : ℕ) (got sent : List Message) → AllByRecursion P sent → AllByRecursion P (in_order (pending_messages p j got sent))
+pub among : (P : Message → Type 0) (p : Parts) (j : ℕ) (got sent : List Message) → AllByRecursion P sent → AllByRecursion P (in_order (pending_messages p j got sent))
 among P p j got sent h = all_in_order P [] (pending_messages p j got sent) tt (all_filter P (is_pending p j got sent) sent h)
 
 -- one more message sent, at one queue
-post_queue : (p : Parts) (j : ℕ) (got sent : List Message) (m : Message) → list_any (is_same m) got ≡ false → list_any (retracts m) sent ≡ false → list_any (is_same m) sent ≡ false
+pub post_queue : (p : Parts) (j : ℕ) (got sent : List Message) (m : Message) → list_any (is_same m) got ≡ false → list_any (retracts m) sent ≡ false → list_any (is_same m) sent ≡ false
     → (is_event m.kind ≡ false → AllByRecursion (Timed m) sent) → queue_after_message (receiver_mask p m) j m (in_order (pending_messages p j got sent)) ≡ in_order (pending_messages p j got (sent ++ m ∷ []))
 post_queue p j got sent m fresh kept new timed = by_kind (is_event m.kind) refl
   where

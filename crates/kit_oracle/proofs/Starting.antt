@@ -172,7 +172,7 @@ by_key r x e t =
     ∙ and_more (nat_eq r.time x.time) (nat_eq r.sender x.sender) (nat_eq r.value x.number) (λ s n. eq-eqb r.time x.time (sym (t (sym (eqb-true r.sender x.sender s)) (sym (eqb-true r.value x.number n)))))
 
 -- and so for each message
-by_key_each : (r : Message) (xs : List Message) → is_event r.kind ≡ false → AllByRecursion (Timed r) xs → AllByRecursion (λ (x : Message). not (retracts x r) ≡ not (has_key r.time r.sender r.value x)) xs
+pub by_key_each : (r : Message) (xs : List Message) → is_event r.kind ≡ false → AllByRecursion (Timed r) xs → AllByRecursion (λ (x : Message). not (retracts x r) ≡ not (has_key r.time r.sender r.value x)) xs
 by_key_each r [] e h = tt
 by_key_each r (x ∷ xs) e h = (ap not (by_key r x e h.0), by_key_each r xs e h.1)
 
@@ -193,7 +193,7 @@ starts_backward p a (suc n) =
     all-append Backward own (starts p (a + 1) n) (each_weaker (Aims own) Backward own (λ r f e. (f e).1) (aimed_start p a).aims) (starts_backward p (a + 1) n)
 
 -- a turn keeps what is told
-told_once : (p : Parts) (last : ℕ × ℕ) (w : World) (o : Option (ℕ × ℕ)) → Reached p last w → next_grant p w ≡ o → Told w → Told (world_after_pair p w o)
+pub told_once : (p : Parts) (last : ℕ × ℕ) (w : World) (o : Option (ℕ × ℕ)) → Reached p last w → next_grant p w ≡ o → Told w → Told (world_after_pair p w o)
 told_once p last w None r e t = t
 told_once p last w (Some g) r e t =
     let within : g.1 < length w.seats = (grants p last w g r e).within in

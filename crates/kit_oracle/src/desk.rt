@@ -10,11 +10,11 @@ use kit_rules::{FedState, Request};
 /// What the simulation keeps of a federate: its time, its request, its state, and the messages
 /// that are pending for it.
 #[derive(Drop)]
-pub(crate) struct Desk {
-    pub(crate) now: u64,
-    pub(crate) request: Request,
-    pub(crate) state: FedState,
-    pub(crate) queue: PendingMessages,
+pub struct Desk {
+    pub now: u64,
+    pub request: Request,
+    pub state: FedState,
+    pub queue: PendingMessages,
 }
 
 /// When a request is due. The messages are looked at only where it asks for them.
@@ -43,7 +43,7 @@ fn sooner_of(best: Option<(u64, u8)>, pair: (u64, u8)) -> (u64, u8)
 }
 
 /// The least pair of a due time and a federate below the end.
-pub(crate) fn next_of(end: u64, desks: &[Desk]) -> Option<(u64, u8)>
+pub fn next_of(end: u64, desks: &[Desk]) -> Option<(u64, u8)>
     requires { length desks.now ≤ 16 }
     ensures { result ≡ least_pair None (waiting_at end 0 desks.now) }
 {

@@ -33,7 +33,7 @@ impl<T: Drop> From<AllocFailed<T>> for OracleEnd {
 }
 
 /// The end of a simulation in which this federate could not go on.
-pub(crate) fn end_of(end: ApplyEnd, federate: u8) -> OracleEnd
+pub fn end_of(end: ApplyEnd, federate: u8) -> OracleEnd
     ensures { result ≡ oracle_end end federate }
 {
     match end {

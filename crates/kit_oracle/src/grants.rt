@@ -98,7 +98,7 @@ fn run_block<O: Observer>(
 }
 
 /// A grant on the federate's own desk; what it sends is added to `made`.
-fn turn<O: Observer>(
+pub fn turn<O: Observer>(
     federation: &Federation,
     i: u8,
     d: u64,
@@ -133,7 +133,7 @@ fn turn<O: Observer>(
 }
 
 /// A grant with its messages posted, which are added to `made`.
-pub(crate) fn grant<O: Observer>(
+pub fn grant<O: Observer>(
     federation: &Federation,
     pair: (u64, u8),
     desks: &mut Vec<Desk>,

@@ -12,9 +12,13 @@ mod posting;
 mod simulation;
 mod times;
 
-pub use end::OracleEnd;
+pub use desk::{Desk, next_of};
+pub use end::{OracleEnd, end_of};
+pub use grants::{grant, turn};
 pub use observer::Observer;
-pub use simulation::{need, observe, simulate};
+pub use opening::open_all;
+pub use pending::{Key, PendingMessages};
+pub use simulation::{need, observe, simulate, vars_of};
 
 #[cfg(test)]
 mod tests;

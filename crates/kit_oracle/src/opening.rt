@@ -68,7 +68,7 @@ fn open_each(
 }
 
 /// The desks after the start's rules of all federates; `made` is empty before and after.
-pub(crate) fn open_all(
+pub fn open_all(
     alloc: Global,
     federation: &Federation,
     made: &mut Vec<Message>,

@@ -19,10 +19,10 @@ use std::marker::Model;
 
 /// What messages are ordered by.
 #[derive(Clone, Copy, Debug, PartialEq, Eq, PartialOrd, Ord)]
-pub(crate) struct Key {
-    pub(crate) time: u64,
-    pub(crate) sender: u8,
-    pub(crate) number: u32,
+pub struct Key {
+    pub time: u64,
+    pub sender: u8,
+    pub number: u32,
 }
 
 /// How many messages stand in the row at most.
@@ -31,7 +31,7 @@ const MOST_NEAR: usize = 128;
 /// Messages in the order of their keys: the first of them in a row, and those behind them in a
 /// tree, each under its key.
 #[derive(Drop)]
-pub(crate) struct PendingMessages {
+pub struct PendingMessages {
     near: VecDeque<Message>,
     far: BTreeMap<Key, Message>,
 }
@@ -173,7 +173,7 @@ fn first_far(far: &BTreeMap<Key, Message>) -> Option<u64>
 }
 
 impl PendingMessages {
-    pub(crate) fn new(alloc: Global) -> PendingMessages
+    pub fn new(alloc: Global) -> PendingMessages
         ensures { result ≡ [] }
     {
         PendingMessages {
@@ -197,7 +197,7 @@ impl PendingMessages {
         Ok(())
     }
 
-    pub(crate) fn insert(&mut self, message: Message) -> Result<(), AllocError>
+    pub fn insert(&mut self, message: Message) -> Result<(), AllocError>
         ensures ok { OnOk result (self.new ≡ queue_with message self.old) }
         ensures err { OnErr result (self.new ≡ self.old) }
     {
@@ -211,7 +211,7 @@ impl PendingMessages {
     }
 
     /// Takes out the message of this key, if it is there.
-    pub(crate) fn remove(&mut self, key: Key)
+    pub fn remove(&mut self, key: Key)
         ensures { self.new ≡ without_key key.time key.sender key.number self.old }
     {
         if is_near(&self.far, key) {
@@ -222,7 +222,7 @@ impl PendingMessages {
     }
 
     /// The time of the first message, if any is there.
-    pub(crate) fn first_time(&self) -> Option<u64>
+    pub fn first_time(&self) -> Option<u64>
         ensures { result ≡ first_time self.now }
     {
         match self.near.front() {
@@ -232,7 +232,7 @@ impl PendingMessages {
     }
 
     /// Takes out the first message, if it is timed `by` or less.
-    pub(crate) fn pop_due(&mut self, by: u64) -> Option<Message>
+    pub fn pop_due(&mut self, by: u64) -> Option<Message>
         ensures some { IfSome result (λ m. self.old ≡ m ∷ self.new) }
         ensures due { IfSome result (λ m. m.time ≤ by) }
         ensures none { IfNone result (front_until by self.old ≡ []) }

@@ -53,7 +53,8 @@ fn run_all<O: Observer>(
     Ok(())
 }
 
-fn vars_of(alloc: Global, desks: &[Desk]) -> Result<Items<[u32; 8]>, AllocError>
+/// The variables of the federates on these desks.
+pub fn vars_of(alloc: Global, desks: &[Desk]) -> Result<Items<[u32; 8]>, AllocError>
     ensures { IfOk result (λ vars. vars ≡ map (λ (d : _). d.state.vars) desks.now) }
 {
     let mut vars = Items::new(alloc);
