@@ -27,4 +27,6 @@ pub use laws::{keys_mean, places_take_their_range, plans_mean};
 pub use reading::{read_federation, read_plan};
 
 #[cfg(test)]
+mod plan_tests;
+#[cfg(test)]
 mod tests;

@@ -4,7 +4,7 @@ use std::alloc::{AllocError, Global};
 use std::test::*;
 
 /// The text as bytes, with a double quote for each single one.
-fn quoted(alloc: Global, text: &str) -> Result<Vec<u8>, AllocError> {
+pub(crate) fn quoted(alloc: Global, text: &str) -> Result<Vec<u8>, AllocError> {
     let mut bytes = Vec::new(alloc);
     for byte in text.as_bytes() {
         bytes.push(if *byte == b'\'' { b'"' } else { *byte })?;
@@ -49,7 +49,7 @@ fn is_at(at: &FaultPath, path: &str) -> bool {
 }
 
 /// Whether the answer is of this variant and at this path.
-fn is_answer(answer: &Result<Federation, FileFault>, variant: &str, path: &str) -> bool {
+pub(crate) fn is_answer<T>(answer: &Result<T, FileFault>, variant: &str, path: &str) -> bool {
     match answer {
         Ok(_) => variant == "Ok",
         Err(FileFault::NotJson) => variant == "NotJson",

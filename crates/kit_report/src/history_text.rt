@@ -223,6 +223,21 @@ pub(crate) fn push_closings(
     Ok(())
 }
 
+/// The text of lines, in one buffer, as [`text`] has them: without closing lines.
+pub fn lines_text(
+    alloc: Global,
+    federation: &Federation,
+    lines: &[Line],
+) -> Result<Vec<u8>, AllocError>
+    requires { All (LineFits federation.now) lines.now }
+    ensures { IfOk result (λ out. out.items ≡ flat_map (line_text federation.now) lines.now) }
+{
+    let room = lines.len().saturating_mul(LINE_ROOM);
+    let mut out = Vec::with_capacity(alloc, room)?;
+    push_lines(&mut out, federation, lines)?;
+    Ok(out)
+}
+
 /// The text of a history, in one buffer: the lines in the order in which they stand, and then each
 /// federate's closing line with its variables in the order of the file. Federates and groups are
 /// written by their names, numbers in decimal digits, and each line ends with a newline byte.
@@ -236,9 +251,7 @@ pub fn text(
     ensures { IfOk result (λ out. out.items ≡
         history_text federation.now history.now.lines history.now.vars) }
 {
-    let room = history.lines.len().saturating_mul(LINE_ROOM);
-    let mut out = Vec::with_capacity(alloc, room)?;
-    push_lines(&mut out, federation, history.lines.as_slice())?;
+    let mut out = lines_text(alloc, federation, history.lines.as_slice())?;
     push_closings(&mut out, federation.federates(), history.vars.as_slice())?;
     Ok(out)
 }
