@@ -1,0 +1,9 @@
+mod Pairwise
+mod Alike
+mod Restored
+mod Parting
+mod Standings
+mod Resuming
+mod Sound
+mod Differing
+mod Validity
