@@ -7,3 +7,6 @@ mod Resuming
 mod Sound
 mod Differing
 mod Validity
+mod Seen
+mod Rises
+mod Numbered

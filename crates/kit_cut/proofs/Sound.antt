@@ -79,10 +79,10 @@ spare_grant p w g f lt h =
     let due = due_messages p g.1 g.0 (seat_at w g.1).got w.messages in
     spare_step p g.1 Grant g.0 0 (after_deliveries p g.1 g.0 (seat_at w g.1).state due) f lt (spare_deliveries p g.1 g.0 due (seat_at w g.1).state f lt h)
 
-abbrev zeros_of : ℕ → List ℕ
+abbrev pub zeros_of : ℕ → List ℕ
 zeros_of n = replicate n 0
 
-zeros : (n k : ℕ) → get_or (zeros_of n) k 0 ≡ 0
+pub zeros : (n k : ℕ) → get_or (zeros_of n) k 0 ≡ 0
 zeros zero k = refl
 zeros (suc n) zero = refl
 zeros (suc n) (suc k) = zeros n k

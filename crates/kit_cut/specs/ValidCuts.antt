@@ -46,6 +46,10 @@ pub record IsPendingMessage (p : Parts) (i from : ℕ) (nexts : List ℕ) (m : M
 abbrev pub NumbersDiffer : Message → Message → Type 0
 NumbersDiffer a b = a.sender ≡ b.sender → a.number ≢ b.number
 
+-- a sender and a number there can be
+abbrev pub IsNumbered : Message → Type 0
+IsNumbered m = (m.sender < 16) × (m.number < 16385)
+
 -- the own Events of federate i, with rising numbers
 pub record AreOwn (p : Parts) (i now next : ℕ) (own : List Own) : Type 0 where
   pub few : length own ≤ 16384
@@ -86,10 +90,14 @@ nobody_stands = record { now = 0; vars = []; wish = wish.Tar 0; request = None; 
 abbrev pub standing_at : Cut → ℕ → Standing
 standing_at c i = slice_index_or c.federates i nobody_stands
 
+-- the number that a federate's next message gets: one past the last where it has none left
+abbrev pub IsNextNumber : ℕ → Type 0
+IsNextNumber n = (1 ≤ n) × (n ≤ 16385)
+
 -- a cut of a federation
 pub record IsValidCut (p : Parts) (c : Cut) : Type 0 where
   pub at : c.at ≤ p.end
   pub each_next : length c.next ≡ length p.federates
-  pub nexts : All (λ n. (1 ≤ n) × (n ≤ 16385)) c.next
+  pub nexts : All IsNextNumber c.next
   pub each : length c.federates ≡ length p.federates
   pub federates : (i : ℕ) → i < length p.federates → IsStanding p c.at c.next i (standing_at c i)

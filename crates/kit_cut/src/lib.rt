@@ -3,6 +3,10 @@
 
 mod cut;
 mod laws;
+mod numbers;
+mod order;
+mod valid;
 
 pub use cut::{Cut, Standing};
 pub use laws::{cuts_are_valid, simulation_is_cut_in_two};
+pub use valid::valid_cut;
