@@ -9,8 +9,8 @@ time of N runs, taken in turns, with the start of the process. Where the pools a
 smaller than what `rtik check` says, they are made as large as they may be. The
 schedule gives each federate a turn, again and again, four times as often at each
 trial until the run is done; the texts must be the same. Printed are the seconds of
-both, their ratio, the turns of the schedule, and the nanoseconds that a turn takes.
-With more turns than the run needs, those at its end find their nodes finished.
+both, their ratio, the turns of the schedule, the nanoseconds that a turn takes, and
+the greatest memory of a replay as a multiple of that of oracle. With more turns than the run needs, those at its end find their nodes finished.
 
 With --figures it prints what a turn that finds nothing to do takes, a message, each
 further receiver of a message, and a round of the reduction, each among 16
@@ -22,6 +22,7 @@ import argparse
 import json
 import os
 import statistics
+import subprocess
 import sys
 import tempfile
 
@@ -57,6 +58,18 @@ def words_until_done(path):
     return None, 0
 
 
+def memory(command, path):
+    """The greatest memory of one run, in MB, read by a small process: this one's would count too."""
+    script = (
+        "import resource, subprocess, sys\n"
+        "subprocess.run(sys.argv[1:], stdout=subprocess.DEVNULL)\n"
+        "print(resource.getrusage(resource.RUSAGE_CHILDREN).ru_maxrss)\n"
+    )
+    with open(path, "rb") as file:
+        told = subprocess.run([sys.executable, "-c", script] + command, stdin=file, stdout=subprocess.PIPE)
+    return int(told.stdout) / 1024
+
+
 def measure(name, path, repetitions):
     with tempfile.TemporaryDirectory() as folder:
         path = with_pools(path, folder)
@@ -72,8 +85,9 @@ def measure(name, path, repetitions):
                 seconds[title].append(took)
         if texts["oracle"] != texts["replay"]:
             sys.exit("%s: the texts differ" % name)
+        room = memory([RTIK] + words, path) / memory([RTIK, "oracle"], path)
     oracle, replay = (max(statistics.median(seconds[title]), 1e-6) for title in ("oracle", "replay"))
-    row = [name, "%.3f" % oracle, "%.3f" % replay, "%.2f" % (replay / oracle), str(turns), "%.0f" % (replay / turns * 1e9)]
+    row = [name, "%.3f" % oracle, "%.3f" % replay, "%.2f" % (replay / oracle), str(turns), "%.0f" % (replay / turns * 1e9), "%.2f" % room]
     print("  ".join("%9s" % cell for cell in row), flush=True)
 
 
@@ -162,7 +176,7 @@ def main():
     if args.figures:
         figures(args.repetitions)
         return
-    print("  ".join("%9s" % cell for cell in ["load", "oracle s", "replay s", "ratio", "turns", "ns/turn"]))
+    print("  ".join("%9s" % cell for cell in ["load", "oracle s", "replay s", "ratio", "turns", "ns/turn", "memory"]))
     each_load(args, lambda name, path: measure(name, path, args.repetitions))
 
 
