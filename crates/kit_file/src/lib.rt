@@ -25,8 +25,3 @@ mod variables;
 pub use fault::{FaultPath, FileFault};
 pub use laws::{keys_mean, places_take_their_range, plans_mean};
 pub use reading::{read_federation, read_plan};
-
-#[cfg(test)]
-mod plan_tests;
-#[cfg(test)]
-mod tests;

@@ -10,7 +10,7 @@ use Rattle.kit_rules.specs.declared.table.Trigger.TheVariants.{Start}
 use Rattle.kit_rules.specs.Step.{opening_state}
 use Rattle.kit_rules.proofs.Growth.{Grows, grows_by_step}
 use Rattle.kit_rules.specs.Delivery.{due_messages}
-use Rattle.kit_rules.specs.Simulation.{Seat, World, is_spent, seat_at_start, world_at_start, seat_after_pair, world_after_grant, world_after_pair, next_grant, next_world, after_grants, simulation, spender, seat_at, nobody_seated}
+use Rattle.kit_rules.specs.Simulation.{Seat, World, is_spent, seat_at_start, world_at_start, seat_after_pair, world_after_grant, world_after_pair, next_grant, next_world, after_grants, simulation, spender, start_spender, seat_at, nobody_seated}
 use Rattle.kit_laws.proofs.Joins.{grows_by_block}
 use Rattle.kit_laws.proofs.Numbers.{sender_of, find_past, find_stays, gained_find, gained_none}
 
@@ -41,7 +41,7 @@ stays : (p : Parts) (n : ℕ) (w : World) (m : Message) → find is_spent w.mess
 stays p zero w m h = h
 stays p (suc n) w m h = stays p n (next_world p w) m (stays_once p w m (next_grant p w) h)
 
-some_sender : (o : Option Message) (i : ℕ) → sender_of o ≡ Some i → (m : Message) × (o ≡ Some m) × (m.sender ≡ i)
+pub some_sender : (o : Option Message) (i : ℕ) → sender_of o ≡ Some i → (m : Message) × (o ≡ Some m) × (m.sender ≡ i)
 some_sender None i h = absurd (cc)
 some_sender (Some m) i h = (m, refl, cc)
 
@@ -92,16 +92,20 @@ started_front p k le =
           ∙ ap (λ xs. flat_map (λ (s : Seat). s.state.sends) xs ++ flat_map (λ (s : Seat). s.state.sends) (drop k all)) (take-map-range_with_len (seat_at_start p) 0 (length p.federates) k le),
     )
 
-pub spender_at_start : (p : Parts) (i : ℕ) → i < length p.federates → find is_spent (flat_map (λ (s : Seat). s.state.sends) (map (seat_at_start p) (range_with_len 0 i))) ≡ None
-    → 16385 < (seat_at_start p i).state.next → spender p ≡ Some i
-spender_at_start p i lt none past =
+-- a federate that goes past 16,384 at the start, where none before it did, is the first to do so
+pub start_past : (p : Parts) (i : ℕ) → i < length p.federates → find is_spent (flat_map (λ (s : Seat). s.state.sends) (map (seat_at_start p) (range_with_len 0 i))) ≡ None
+    → 16385 < (seat_at_start p i).state.next → start_spender p ≡ Some i
+start_past p i lt none past =
     let front = flat_map (λ (s : Seat). s.state.sends) (map (seat_at_start p) (range_with_len 0 i)) in
     let more = flat_map (λ (s : Seat). s.state.sends) (map (seat_at_start p) (range_with_len 0 (i + 1))) in
     let f = started_front p (i + 1) (omega arith) in
     let h : sender_of (find is_spent more) ≡ Some i = rw (started_more p i) (start_find p i front none past) in
     let s = some_sender (find is_spent more) i h in
-    spender_from p (length p.federates * p.end) (world_at_start p) i refl
-    (ap (λ xs. sender_of (find is_spent xs)) f.1 ∙ ap sender_of (find_stays more f.0 s.0 s.1) ∙ ap Some s.2)
+    ap (λ xs. sender_of (find is_spent xs)) f.1 ∙ ap sender_of (find_stays more f.0 s.0 s.1) ∙ ap Some s.2
+
+-- and so in the end
+pub spent_at_start : (p : Parts) (i : ℕ) → start_spender p ≡ Some i → spender p ≡ Some i
+spent_at_start p i h = spender_from p (length p.federates * p.end) (world_at_start p) i refl h
 
 -- the turns that are left, with one fewer
 pub turns_left : (p : Parts) (n k : ℕ) (w v : World) → k < n → after_grants p (n - k) w ≡ v → (g : ℕ × ℕ) → next_grant p w ≡ Some g → after_grants p (n - (k + 1)) (world_after_grant p w g) ≡ v

@@ -3,7 +3,8 @@
 ghost use Rattle.std.specs.Prelude.{◌≡◌, ◌<◌, ◌≤◌, [], ◌++◌, length};
 ghost use Rattle.std.specs.Prelude.{find, Some, None, Err, OnOk, IfOk};
 ghost use Rattle.kit_rules.specs.Federation.{IsFederation};
-ghost use Rattle.kit_rules.specs.Simulation.{world_at_start, seat_at_start, spender, is_spent};
+ghost use Rattle.kit_rules.specs.Simulation.{world_at_start, seat_at_start};
+ghost use Rattle.kit_rules.specs.Simulation.{spender, start_spender, is_spent};
 ghost use Rattle.kit_oracle.specs.Desks.{desk_of_seat, desks_of_seats_from, desks_of};
 ghost use Rattle.kit_oracle.specs.Ends.{IfSpent};
 
@@ -55,6 +56,8 @@ fn open_each(
     ensures made { OnOk result (made.new.items ≡ (world_at_start federation.now).messages) }
     ensures none { OnOk result (find is_spent (world_at_start federation.now).messages ≡ None) }
     ensures spent { IfSpent result (λ i. spender federation.now ≡ Some i) }
+    ensures at_start { IfSpent result (λ i. start_spender federation.now ≡ Some i) }
+    ensures within { IfSpent result (λ i. i < length federation.now.federates) }
     ensures sound { IsFederation federation.now }
 {
     let mut desks = Vec::new(alloc);
@@ -79,6 +82,8 @@ pub fn open_all(
     ensures made { OnOk result (made.new.items ≡ []) }
     ensures none { OnOk result (find is_spent (world_at_start federation.now).messages ≡ None) }
     ensures spent { IfSpent result (λ i. spender federation.now ≡ Some i) }
+    ensures at_start { IfSpent result (λ i. start_spender federation.now ≡ Some i) }
+    ensures within { IfSpent result (λ i. i < length federation.now.federates) }
     ensures sound { IsFederation federation.now }
 {
     let mut desks = open_each(alloc, federation, made)?;

@@ -158,3 +158,7 @@ is_spent m = m.number == 16385
 -- the federate that takes number 16,385, the first to do so
 abbrev pub spender : Parts → Option ℕ
 spender p = option_map (λ (m : Message). m.sender) (find is_spent (simulation p).messages)
+
+-- the same, of those that do so at the start
+abbrev pub start_spender : Parts → Option ℕ
+start_spender p = option_map (λ (m : Message). m.sender) (find is_spent (world_at_start p).messages)

@@ -1,16 +1,23 @@
 use Rattle.std.proofs.Common.{◌≡◌, ◌∙◌, ◌++◌, [], ◌∷◌, ℕ, ap, sym, arith, Some, Err, map}
 use Rattle.std.specs.List.{range_with_len}
-use Rattle.kit_rules.specs.Simulation.{seat_at_start, spender}
+use Rattle.kit_rules.specs.Simulation.{seat_at_start, spender, start_spender}
 use Rattle.kit_oracle.specs.Desks.{desks_of_seats_from}
-use Rattle.kit_laws.proofs.Worlds.{started_more, start_none, spender_at_start}
+use Rattle.kit_laws.proofs.Worlds.{started_more, start_none, start_past, spent_at_start}
 use Rattle.kit_oracle.proofs.Progress.{spent_end, shown_more}
 use Rattle.kit_oracle.proofs.opening.open_each.Goals as goal
+
+pub returns-in-Err-clause-at_start : goal.returns-in-Err-clause-at_start
+returns-in-Err-clause-at_start c =
+    let P : ℕ → Type 0 = λ i. start_spender c.args.federation.now ≡ Some i in
+    rw c.end_of.ensures (spent_end c.in-Err.end c.loop-i.i P (λ e.
+    start_past c.args.federation.now c.loop-i.i (omega arith) (rw c.loop-i.invariant.made at c.loop-i.invariant.none) (c.in-Err.ensures.spent (ap Err e))))
 
 pub returns-in-Err-clause-spent : goal.returns-in-Err-clause-spent
 returns-in-Err-clause-spent c =
     let P : ℕ → Type 0 = λ i. spender c.args.federation.now ≡ Some i in
     rw c.end_of.ensures (spent_end c.in-Err.end c.loop-i.i P (λ e.
-    spender_at_start c.args.federation.now c.loop-i.i (omega arith) (rw c.loop-i.invariant.made at c.loop-i.invariant.none) (c.in-Err.ensures.spent (ap Err e))))
+    spent_at_start c.args.federation.now c.loop-i.i
+    (start_past c.args.federation.now c.loop-i.i (omega arith) (rw c.loop-i.invariant.made at c.loop-i.invariant.none) (c.in-Err.ensures.spent (ap Err e)))))
 
 pub loop-i-preserved : goal.loop-i-preserved
 loop-i-preserved c = record {
