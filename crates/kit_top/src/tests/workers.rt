@@ -2,7 +2,7 @@
 
 use super::*;
 use crate::{Gate, rtik};
-use kit_io::{MemorySink, MemorySource};
+use kit_io::MemorySink;
 use std::alloc::{AllocError, Global};
 use std::sync::Wait;
 use std::sync::atomic::{AtomicBool, AtomicU64, Ordering};
