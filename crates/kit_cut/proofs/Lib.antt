@@ -10,3 +10,13 @@ mod Validity
 mod Seen
 mod Rises
 mod Numbered
+mod ByTime
+mod Named
+mod SinceShown
+mod WasPending
+mod Since
+mod FreshSince
+mod FitSince
+mod Onward
+mod Posting
+pub mod Spending

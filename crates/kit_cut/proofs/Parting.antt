@@ -33,7 +33,7 @@ follows_deliveries p i since d (m ∷ ms) a ys le s =
     follows_more (effective_lookahead p i) p.end since (state_after p i (Got m.group) d m.value) (λ s. after_deliveries p i d s ms) a ys one
     (follows_deliveries p i since d ms (state_after p i (Got m.group) d m.value a) (ys ++ one.made) le one.same)
 
-follows_block : (p : Parts) (i since d : ℕ) (due : List Message) (a : State) (ys : List Message) → since ≤ d → Same (effective_lookahead p i) p.end since a.next a.sends ys
+pub follows_block : (p : Parts) (i since d : ℕ) (due : List Message) (a : State) (ys : List Message) → since ≤ d → Same (effective_lookahead p i) p.end since a.next a.sends ys
     → Follows (effective_lookahead p i) p.end since (λ s. after_block p i d s due) a ys
 follows_block p i since d due a ys le s =
     let one = follows_deliveries p i since d due a ys le s in

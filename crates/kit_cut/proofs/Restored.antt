@@ -18,7 +18,7 @@ use Rattle.kit_rules.proofs.Growth.{AreNumbered}
 use Rattle.kit_rules.proofs.Lookaheads.{lookahead_is_positive}
 use Rattle.kit_rules.proofs.TakenBack.{find_at, find_none}
 use Rattle.kit_rules.specs.declared.own.Own.{Own}
-use Rattle.kit_rules.specs.Own.{is_untaken, own_of, own_events, own_message, past_message, restored_state}
+use Rattle.kit_rules.specs.Own.{is_untaken, own_of, own_events, own_message, past_message, restored_sends, restored_state, IsNumberedBelow}
 use Rattle.kit_cut.specs.Reach.{is_in_reach}
 use Rattle.kit_cut.proofs.Alike.{targets, Suits, Closed, Same, or_none}
 use Rattle.kit_cut.proofs.Pairwise.{Pairwise, pairs_filter, all_map, both_all, Lower, numbers_rise, LowerOwn, own_rises}
@@ -252,7 +252,7 @@ all_put_own P i [] sends a h = h
 all_put_own P i (o ∷ os) sends a h = all_put_own P i os (set sends (o.number - 1) (own_message i o)) a.1 (all_set P sends (o.number - 1) (own_message i o) a.0 h)
 
 -- an Event with a number below the next
-abbrev EventBelow : ℕ → Message → Type 0
+abbrev pub EventBelow : ℕ → Message → Type 0
 EventBelow next m = (m.number < next) × (is_event m.kind ≡ true)
 
 spare_below : (next i a n : ℕ) → a + n ≤ next → AllByRecursion (EventBelow next) (spare i a n)
@@ -274,6 +274,74 @@ low_numbers : (i n : ℕ) (ms : List Message) → 1 ≤ n → AreNumbered i n ms
 low_numbers i n [] low num = tt
 low_numbers i n (m ∷ ms) low num = ((let is : m.number ≡ n = num.1 in omega arith), low_numbers i (n + 1) ms (omega arith) num.2)
 
+-- restored sends are Events below the next number
+pub restored_events : (i next : ℕ) (own : List Own) → 1 ≤ next → AllByRecursion (IsNumberedBelow next) own → AllByRecursion (EventBelow next) (restored_sends i next own)
+restored_events i next own low numbers =
+    all_put_own (EventBelow next) i own (spare i 1 (next - 1)) (each_weaker (IsNumberedBelow next) (λ o. EventBelow next (own_message i o)) own (λ o q. (q.1, refl)) numbers) (spare_below next i 1 (next - 1) (omega arith))
+
+-- and numbered from 1 on
+numbered_set : (i n : ℕ) (ms : List Message) (k : ℕ) (m : Message) → m.sender ≡ i → m.number ≡ n + k → AreNumbered i n ms → AreNumbered i n (set ms k m)
+numbered_set i n [] k m is at h = tt
+numbered_set i n (x ∷ xs) zero m is at h = (is, omega arith, h.2)
+numbered_set i n (x ∷ xs) (suc k) m is at h = (h.0, h.1, numbered_set i (n + 1) xs k m is (omega arith) h.2)
+
+numbered_put : (i next : ℕ) (own : List Own) (sends : List Message) → AllByRecursion (IsNumberedBelow next) own → AreNumbered i 1 sends → AreNumbered i 1 (put_own i sends own)
+numbered_put i next [] sends numbers h = h
+numbered_put i next (o ∷ os) sends numbers h =
+    numbered_put i next os (set sends (o.number - 1) (own_message i o)) numbers.1 (numbered_set i 1 sends (o.number - 1) (own_message i o) refl (omega (arith, numbers.0.0)) h)
+
+spare_numbered : (i a n : ℕ) → AreNumbered i a (spare i a n)
+spare_numbered i a zero = tt
+spare_numbered i a (suc n) = (refl, refl, spare_numbered i (a + 1) n)
+
+pub restored_numbered : (i next : ℕ) (own : List Own) → AllByRecursion (IsNumberedBelow next) own → AreNumbered i 1 (restored_sends i next own)
+restored_numbered i next own numbers = numbered_put i next own (spare i 1 (next - 1)) numbers (spare_numbered i 1 (next - 1))
+
+-- they are as many as there are numbers
+length_put : (i : ℕ) (own : List Own) (sends : List Message) → length (put_own i sends own) ≡ length sends
+length_put i [] sends = refl
+length_put i (o ∷ os) sends = length_put i os (set sends (o.number - 1) (own_message i o)) ∙ length-set sends (o.number - 1) (own_message i o)
+
+pub restored_count : (i next : ℕ) (own : List Own) → 1 ≤ next → next ≡ 1 + length (restored_sends i next own)
+restored_count i next own low = omega (arith, length_put i own (spare i 1 (next - 1)), length-map-range_with_len (past_message i) 1 (next - 1))
+
+-- among them the same is found as among the own Events
+found_restored : (p : Parts) (i next : ℕ) (own : List Own) (sc : Scene) (n : ℕ) → IsFederation p → AllByRecursion (IsNumberedBelow next) own → Pairwise LowerOwn own → sc.lookahead ≡ effective_lookahead p i
+    → find (targets sc n false) (restored_sends i next own) ≡ find (targets sc n false) (map (own_message i) own)
+found_restored p i next own sc n f numbers rise looks =
+    let test = targets sc n false in
+    let spares = spare i 1 (next - 1) in
+    let la : 1 ≤ sc.lookahead = omega (arith, looks, lookahead_is_positive p i f) in
+    let fails : (k : ℕ) → test (get_or spares k no_message) ≡ false = λ k. early_fails sc n (get_or spares k no_message) la (time_at spares k (spare_times i 1 (next - 1))) in
+    let has : AllByRecursion (HasPlace test spares) own = each_weaker (IsNumberedBelow next) (HasPlace test spares) own
+    (λ o q. record { low = q.0; high = omega (arith, q.1, length-map-range_with_len (past_message i) 1 (next - 1)); free = fails (o.number - 1) }) numbers in
+    let none : find test spares ≡ None = find_none test spares no_message (λ k lt. fails k) in
+    found_put test n i own spares (target_number sc n) (spare_placed i (next - 1)) rise has ∙ ap (option_or (find test (map (own_message i) own))) none ∙ or_none (find test (map (own_message i) own))
+
+-- own Events as messages are below the next number
+own_below : (i next : ℕ) (own : List Own) → AllByRecursion (IsNumberedBelow next) own → AllByRecursion (EventBelow next) (map (own_message i) own)
+own_below i next own numbers = all_map (IsNumberedBelow next) (EventBelow next) (own_message i) own (λ o q. (q.1, refl)) numbers
+
+closed_events : (next : ℕ) (ms : List Message) → AllByRecursion (EventBelow next) ms → AllByRecursion (Closed next) ms
+closed_events next ms h = each_weaker (EventBelow next) (Closed next) ms (λ m e. (e.0, λ no. absurd (let passes : is_event m.kind ≡ true = e.1 in cc))) h
+
+-- so each number names the same in restored sends as in the own Events alone
+pub restored_same : (p : Parts) (i next : ℕ) (own : List Own) → IsFederation p → 1 ≤ next → AllByRecursion (IsNumberedBelow next) own → Pairwise LowerOwn own
+    → Same (effective_lookahead p i) p.end 0 next (restored_sends i next own) (map (own_message i) own)
+restored_same p i next own f low numbers rise =
+    let restored = restored_sends i next own in
+    let few = map (own_message i) own in
+    let events = restored_events i next own low numbers in
+    let below = own_below i next own numbers in
+    record {
+      names = λ sc n su.
+          ap (λ b. option_map own_of (find (targets sc n b) restored)) (no_takes next n restored events)
+          ∙ ap (option_map own_of) (found_restored p i next own sc n f numbers rise su.looks)
+          ∙ sym (ap (λ b. option_map own_of (find (targets sc n b) few)) (no_takes next n few below));
+      left = closed_events next restored events;
+      right = closed_events next few below;
+    }
+
 -- each number names the same in what is kept, each at its place
 pub kept_same : (p : Parts) (i now : ℕ) (s : State) → IsFederation p → Aimed s → AreNumbered i 1 s.sends → s.next ≡ 1 + length s.sends
     → Same (effective_lookahead p i) p.end now s.next s.sends (restored_state i s.vars s.wish s.next (filter (is_in_reach p i now) (own_events s.sends))).sends
@@ -281,29 +349,18 @@ kept_same p i now s f aimed num count =
     let next = s.next in
     let sends = s.sends in
     let own = filter (is_in_reach p i now) (own_events sends) in
-    let spares = spare i 1 (next - 1) in
-    let restored = put_own i spares own in
+    let restored = restored_sends i next own in
     let closed = closed_of_aimed next sends sends aimed.under aimed.aims in
-    let Q : Own → Type 0 = λ o. (1 ≤ o.number) × (o.number < next) in
-    let numbers : AllByRecursion Q own =
-    all_filter Q (is_in_reach p i now) (own_events sends)
-    (all_map (λ (m : Message). (1 ≤ m.number) × Closed next m) Q own_of (filter (is_untaken sends) sends) (λ m c. (c.0, c.1.0))
+    let numbers : AllByRecursion (IsNumberedBelow next) own =
+    all_filter (IsNumberedBelow next) (is_in_reach p i now) (own_events sends)
+    (all_map (λ (m : Message). (1 ≤ m.number) × Closed next m) (IsNumberedBelow next) own_of (filter (is_untaken sends) sends) (λ m c. (c.0, c.1.0))
     (all_filter (λ (m : Message). (1 ≤ m.number) × Closed next m) (is_untaken sends) sends (both_all (λ (m : Message). 1 ≤ m.number) (Closed next) sends (low_numbers i 1 sends (omega arith) num) closed))) in
     let rise : Pairwise LowerOwn own = pairs_filter LowerOwn (is_in_reach p i now) (own_events sends) (own_rises (filter (is_untaken sends) sends) (pairs_filter Lower (is_untaken sends) sends (numbers_rise i 1 sends num))) in
-    let events : AllByRecursion (EventBelow next) restored =
-    all_put_own (EventBelow next) i own spares (each_weaker Q (λ o. EventBelow next (own_message i o)) own (λ o q. (q.1, refl)) numbers) (spare_below next i 1 (next - 1) (omega arith)) in
+    let events = restored_events i next own (omega (arith, count)) numbers in
     record {
       names = λ sc n su.
-          let test = targets sc n false in
-          let la : 1 ≤ sc.lookahead = omega (arith, su.looks, lookahead_is_positive p i f) in
-          let fails : (k : ℕ) → test (get_or spares k no_message) ≡ false = λ k. early_fails sc n (get_or spares k no_message) la (time_at spares k (spare_times i 1 (next - 1))) in
-          let has : AllByRecursion (HasPlace test spares) own = each_weaker Q (HasPlace test spares) own
-          (λ o q. record { low = q.0; high = omega (arith, q.1, length-map-range_with_len (past_message i) 1 (next - 1)); free = fails (o.number - 1) }) numbers in
-          let none : find test spares ≡ None = find_none test spares no_message (λ k lt. fails k) in
-          let same : find test restored ≡ find test (map (own_message i) own) =
-          found_put test n i own spares (target_number sc n) (spare_placed i (next - 1)) rise has ∙ ap (option_or (find test (map (own_message i) own))) none ∙ or_none (find test (map (own_message i) own)) in
-          first_kept p i now n sc sends sends su ∙ ap (option_map own_of) (sym same)
+          first_kept p i now n sc sends sends su ∙ ap (option_map own_of) (sym (found_restored p i next own sc n f numbers rise su.looks))
           ∙ sym (ap (λ b. option_map own_of (find (targets sc n b) restored)) (no_takes next n restored events));
       left = closed;
-      right = each_weaker (EventBelow next) (Closed next) restored (λ m e. (e.0, λ no. absurd (let passes : is_event m.kind ≡ true = e.1 in cc))) events;
+      right = closed_events next restored events;
     }

@@ -132,7 +132,7 @@ later_is_none t g lt =
     ]
 
 -- where none is due by a time, nothing more is done by it
-by_stops : (p : Parts) (t n : ℕ) (w : World) → due_by t (next_grant p w) ≡ None → after_grants_by p t n w ≡ w
+pub by_stops : (p : Parts) (t n : ℕ) (w : World) → due_by t (next_grant p w) ≡ None → after_grants_by p t n w ≡ w
 by_stops p t zero w e = refl
 by_stops p t (suc n) w e = ap (λ o. after_grants_by p t n (world_after_pair p w o)) e ∙ by_stops p t n w e
 

@@ -1,5 +1,6 @@
 -- What is pending is Events, and stays so where it is all that may reach a federate.
-use Rattle.std.proofs.Common.{◌≡◌, ℕ, Bool, true, false, not, ◌&&◌, List, [], ◌∷◌, ◌++◌, filter, refl, sym, ap, ◌∙◌, subst, append_assoc}
+use Rattle.std.proofs.Common.{◌≡◌, ℕ, Bool, true, false, not, ◌&&◌, List, [], ◌∷◌, ◌++◌, filter, nat_le, nat_eq, refl, sym, ap, ◌∙◌, subst, append_assoc}
+use Rattle.std.proofs.lemmas.Bool.{and_parts}
 use Rattle.std.proofs.lemmas.List.{append-nil}
 use Rattle.std.specs.List.{AllByRecursion}
 use Rattle.kit_base.specs.declared.message.Message.{Message}
@@ -32,6 +33,13 @@ pending_tested p i got sent =
 pub pending_events : (p : Parts) (i : ℕ) (got sent : List Message) → AllByRecursion IsEvent (in_order (pending_messages p i got sent))
 pending_events p i got sent =
     each_weaker (λ m. is_pending p i got sent m ≡ true) IsEvent (in_order (pending_messages p i got sent)) (λ m t. pending_event p i got sent m t) (pending_tested p i got sent)
+
+-- and timed by the end
+pub pending_in_time : (p : Parts) (i : ℕ) (got sent : List Message) → AllByRecursion (λ (m : Message). nat_le m.time p.end ≡ true) (in_order (pending_messages p i got sent))
+pending_in_time p i got sent =
+    each_weaker (λ m. is_pending p i got sent m ≡ true) (λ (m : Message). nat_le m.time p.end ≡ true) (in_order (pending_messages p i got sent)) (λ m t.
+    let transported = (and_parts (is_event m.kind) (is_transported p m) (and_parts (is_event m.kind && is_transported p m) (has_bit (receivers_of p m.sender m.group) i) (pending_front p i got sent m t)).0).1 in
+    (and_parts (nat_le m.time p.end) (not (nat_eq (receivers_of p m.sender m.group) 0)) transported).0) (pending_tested p i got sent)
 
 -- a list in which each passes is left whole
 all_pass : (test : Message → Bool) (ms : List Message) → AllByRecursion (λ m. test m ≡ true) ms → filter test ms ≡ ms

@@ -1,10 +1,11 @@
 -- The sequential simulation up to a time, and what a cut keeps of it.
-use Rattle.std.specs.Prelude.{ℕ, zero, suc, ◌+◌, ◌*◌, min, nat_lt, nat_le, if◌then◌else◌, List, [], ◌∷◌, length, map, filter, Option, Some, None}
+use Rattle.std.specs.Prelude.{ℕ, zero, suc, ◌+◌, ◌*◌, min, nat_lt, nat_le, if◌then◌else◌, List, [], ◌∷◌, length, map, filter, find, Option, Some, None}
+use Rattle.std.specs.Option.{option_map}
 use Rattle.kit_base.specs.declared.message.Message.{Message}
 use Rattle.kit_base.specs.Order.{in_order}
 use Rattle.kit_rules.specs.Parts.{Parts}
 use Rattle.kit_rules.specs.Delivery.{pending_messages}
-use Rattle.kit_rules.specs.Simulation.{Seat, World, world_at_start, next_grant, world_after_pair}
+use Rattle.kit_rules.specs.Simulation.{Seat, World, is_spent, world_at_start, next_grant, world_after_pair}
 use Rattle.kit_rules.specs.Own.{own_events}
 use Rattle.kit_cut.specs.Reach.{is_in_reach}
 use Rattle.kit_cut.specs.declared.cut.Standing.{Standing}
@@ -23,6 +24,10 @@ after_grants_by p t (suc n) w = after_grants_by p t n (world_after_pair p w (due
 -- the simulation up to a time: every pair that is due then or earlier has been taken
 abbrev pub world_by : Parts → ℕ → World
 world_by p t = after_grants_by p t (length p.federates * p.end) (world_at_start p)
+
+-- the federate that takes number 16,385 up to a time, the first to do so
+abbrev pub spender_by : Parts → ℕ → Option ℕ
+spender_by p t = option_map (λ (m : Message). m.sender) (find is_spent (world_by p t).messages)
 
 -- what is kept of federate i, of whose Events those that it may still take back
 abbrev pub standing_of : Parts → List Message → ℕ → Seat → Standing
