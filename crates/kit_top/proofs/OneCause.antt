@@ -1,5 +1,6 @@
 -- The words, the input and what was replayed cause one status and one text.
-use Rattle.std.proofs.Common.{◌≡◌, ◌≢◌, ◌⊎◌, inl, inr, ◌≤◌, ◌+◌, ℕ, List, [], ◌∷◌, length, get_or, Option, Some, None, IfSome, Result, Ok, Err, codes, refl, sym, subst, ap, ◌∙◌, arith}
+use Rattle.std.proofs.Common.{◌≡◌, ◌≢◌, ◌⊎◌, inl, inr, ◌≤◌, ◌+◌, ℕ, List, [], ◌∷◌, length, get_or, Option, Some, None, IfSome, Result, Ok, Err, codes, decimal, ◌<◌, refl, sym, subst, ap, ◌∙◌, arith}
+use Rattle.std.proofs.lemmas.Fmt.{decimal_injective}
 use Rattle.serde_json.specs.Data.{Data}
 use Rattle.kit_io.specs.declared.source.Source.{Ghosts}
 use Rattle.kit_io.specs.Causes.{Took}
@@ -14,15 +15,16 @@ use Rattle.kit_regions.specs.Lowered.{federation_of}
 use Rattle.kit_regions.specs.Plan.{Plan}
 use Rattle.kit_node.specs.declared.ends.End.{End}
 use Rattle.kit_node.specs.declared.ends.End.TheVariants as ends
+use Rattle.kit_cut.proofs.Spending.{nobody_spends_by}
 use Rattle.kit_schedule.specs.Schedules.{IsSchedule}
 use Rattle.kit_schedule.proofs.Fronts.{words_same}
 use Rattle.kit_top.specs.declared.command.Command.{Command}
 use Rattle.kit_top.specs.declared.command.Command.TheVariants.{OnFederation, Regions}
 use Rattle.kit_top.specs.declared.command.FederationCommand.{FederationCommand}
-use Rattle.kit_top.specs.declared.command.FederationCommand.TheVariants.{Oracle, Check, Replay}
+use Rattle.kit_top.specs.declared.command.FederationCommand.TheVariants.{Oracle, Check, Replay, Upto}
 use Rattle.kit_top.specs.declared.status.Status.{Status}
 use Rattle.kit_top.specs.declared.status.Status.TheVariants.{Done, Usage, ReadFault, TooLong, BadFile, Unfinished, NoBuffer, SendsSpent, RoundsSpent, WriteFault, NoMemory}
-use Rattle.kit_top.specs.Causes.{AcceptedCauses, Answers, Causes, EndCauses, FileCauses, FederationCauses, HasBuffers, IsCommand, IsFederationCommand, IsNoCommand, IsReplayCommand, IsWhole, IsThis, IsBadFile, Run, SimulationCauses, bad_file_text, end_of, plan_text, spent_text, text_of, OneCause, Completes, most_bytes}
+use Rattle.kit_top.specs.Causes.{AcceptedCauses, Answers, Causes, EndCauses, FileCauses, FederationCauses, HasBuffers, IsCommand, IsFederationCommand, IsNoCommand, IsReplayCommand, IsWhole, IsThis, IsBadFile, Run, SimulationCauses, bad_file_text, end_of, plan_text, spender_of, spent_text, text_of, OneCause, Completes, most_bytes}
 use Rattle.kit_top.proofs.Ends.{IsEnough, run_is_enough}
 
 pub some_same : {X : Type 0} (x y : X) → Some x ≡ Some y → x ≡ y
@@ -104,7 +106,7 @@ planned_not_bad bytes plan f a b = let w = planned_is_accepted bytes plan a in a
 
 -- what a simulation causes: a text, or that a federate takes number 16,385
 simulation_cases : (command : FederationCommand) (p : Parts) (s : Status) (a : List ℕ) → SimulationCauses command p s a
-    → ((s ≡ Done) × (spender p ≡ None) × (a ≡ text_of command p)) ⊎ ((i : ℕ) × (s ≡ SendsSpent i) × (spender p ≡ Some i) × (a ≡ spent_text p i))
+    → ((s ≡ Done) × (spender_of command p ≡ None) × (a ≡ text_of command p)) ⊎ ((i : ℕ) × (s ≡ SendsSpent i) × (spender_of command p ≡ Some i) × (a ≡ spent_text p i))
 simulation_cases command p Done a h = inl (refl, h.0, h.1)
 simulation_cases command p (SendsSpent i) a h = inr (i, refl, h.0, h.1)
 simulation_cases command p Usage a h = absurd h
@@ -156,6 +158,7 @@ EndAlike command q r = IsReplaying command → end_of q ≡ end_of r
 federation_same : (command : FederationCommand) (p : Parts) (q r : Option Run) (s t : Status) (a b : List ℕ) → EndAlike command q r → FederationCauses command p q s a → FederationCauses command p r t b → (s ≡ t) × (a ≡ b)
 federation_same Oracle p q r s t a b alike h k = simulation_same Oracle p s t a b h k
 federation_same Check p q r s t a b alike h k = simulation_same Check p s t a b h k
+federation_same (Upto time) p q r s t a b alike h k = simulation_same (Upto time) p s t a b h k
 federation_same (Replay schedule) p None r s t a b alike h k = absurd h
 federation_same (Replay schedule) p (Some x) None s t a b alike h k = absurd k
 federation_same (Replay schedule) p (Some x) (Some y) s t a b alike h k =
@@ -238,6 +241,19 @@ oracle_or_replay rest e = differ (codes "oracle" ∷ []) (codes "replay" ∷ res
 check_or_replay : (rest : List (List ℕ)) → codes "check" ∷ [] ≡ codes "replay" ∷ rest → ⊥
 check_or_replay rest e = differ (codes "check" ∷ []) (codes "replay" ∷ rest) 99 114 e refl refl (c_not_r 99 114 refl refl)
 
+-- a word of another first letter than `upto` is another
+other_than_upto : (w : List ℕ) (ws rest : List (List ℕ)) (n : ℕ) → get_or w 0 0 ≡ n → n < 117 → w ∷ ws ≡ codes "upto" ∷ rest → ⊥
+other_than_upto w ws rest n first less e = differ (w ∷ ws) (codes "upto" ∷ rest) n 117 e first refl (λ same. absurd (omega (arith, same, less)))
+
+oracle_or_upto : (rest : List (List ℕ)) → codes "oracle" ∷ [] ≡ codes "upto" ∷ rest → ⊥
+oracle_or_upto rest e = other_than_upto (codes "oracle") [] rest 111 refl (omega arith) e
+
+check_or_upto : (rest : List (List ℕ)) → codes "check" ∷ [] ≡ codes "upto" ∷ rest → ⊥
+check_or_upto rest e = other_than_upto (codes "check") [] rest 99 refl (omega arith) e
+
+replay_or_upto : (words rest : List (List ℕ)) → codes "replay" ∷ words ≡ codes "upto" ∷ rest → ⊥
+replay_or_upto words rest e = other_than_upto (codes "replay") words rest 114 refl (omega arith) e
+
 -- words are those of one command on a federation
 federation_command_same : (words : List (List ℕ)) (c d : FederationCommand) → IsFederationCommand words c → IsFederationCommand words d → c ≡ d
 federation_command_same words Oracle Oracle a b = refl
@@ -248,6 +264,14 @@ federation_command_same words Oracle (Replay schedule) a b = absurd (oracle_or_r
 federation_command_same words Check (Replay schedule) a b = absurd (check_or_replay b.0 (sym a ∙ b.1))
 federation_command_same words (Replay schedule) Oracle a b = absurd (oracle_or_replay a.0 (sym b ∙ a.1))
 federation_command_same words (Replay schedule) Check a b = absurd (check_or_replay a.0 (sym b ∙ a.1))
+federation_command_same words Oracle (Upto t) a b = absurd (oracle_or_upto (decimal t ∷ []) (sym a ∙ b.1))
+federation_command_same words (Upto t) Oracle a b = absurd (oracle_or_upto (decimal t ∷ []) (sym b ∙ a.1))
+federation_command_same words Check (Upto t) a b = absurd (check_or_upto (decimal t ∷ []) (sym a ∙ b.1))
+federation_command_same words (Upto t) Check a b = absurd (check_or_upto (decimal t ∷ []) (sym b ∙ a.1))
+federation_command_same words (Replay x) (Upto t) a b = absurd (replay_or_upto a.0 (decimal t ∷ []) (sym a.1 ∙ b.1))
+federation_command_same words (Upto t) (Replay x) a b = absurd (replay_or_upto b.0 (decimal t ∷ []) (sym b.1 ∙ a.1))
+federation_command_same words (Upto t) (Upto u) a b =
+    ap Upto (decimal_injective t u (omega (arith, a.0)) (omega (arith, b.0)) (ap (λ (ws : List (List ℕ)). get_or ws 1 []) (sym a.1 ∙ b.1)))
 federation_command_same words (Replay x) (Replay y) a b =
     let same : a.0 ≡ b.0 = tail_same (codes "replay") a.0 b.0 (sym a.1 ∙ b.1) in
     let P : List (List ℕ) → Type 0 = λ rest. IsSchedule rest x in
@@ -258,6 +282,7 @@ federation_command_same words (Replay x) (Replay y) a b =
 regions_or : (words : List (List ℕ)) (c : FederationCommand) → words ≡ codes "regions" ∷ [] → IsFederationCommand words c → ⊥
 regions_or words Oracle a b = differ (codes "oracle" ∷ []) (codes "regions" ∷ []) 111 114 (sym b ∙ a) refl refl (o_not_r 111 114 refl refl)
 regions_or words Check a b = differ (codes "check" ∷ []) (codes "regions" ∷ []) 99 114 (sym b ∙ a) refl refl (c_not_r 99 114 refl refl)
+regions_or words (Upto t) a b = other_than_upto (codes "regions") [] (decimal t ∷ []) 114 refl (omega arith) (sym a ∙ b.1)
 regions_or words (Replay schedule) a b =
     differ_length (codes "replay" ∷ b.0) (codes "regions" ∷ []) 6 7 (sym b.1 ∙ a) refl refl (λ e. absurd (omega (arith, e)))
 
@@ -271,6 +296,7 @@ command_same words Regions Regions a b = refl
 replaying : (words : List (List ℕ)) (command : FederationCommand) → IsFederationCommand words command → IsReplaying command → IsReplayCommand words
 replaying words Oracle word h = absurd h
 replaying words Check word h = absurd h
+replaying words (Upto time) word h = absurd h
 replaying words (Replay schedule) word h = (schedule, word)
 
 alike_all : (words : List (List ℕ)) (command : Command) (q r : Option Run) → IsCommand words command → (IsReplayCommand words → end_of q ≡ end_of r) → AllAlike command q r
@@ -321,6 +347,7 @@ answers_run schedule p r ends.NoMemory s a enough h = absurd h
 federation_answers : (command : FederationCommand) (p : Parts) (run : Option Run) (s : Status) (a : List ℕ) → spender p ≡ None → HasBuffers (OnFederation command) p → FederationCauses command p run s a → Answers (OnFederation command) p s a
 federation_answers Oracle p run s a none buffers h = simulation_same Oracle p s Done a (text_of Oracle p) h (none, refl)
 federation_answers Check p run s a none buffers h = simulation_same Check p s Done a (text_of Check p) h (none, refl)
+federation_answers (Upto time) p run s a none buffers h = simulation_same (Upto time) p s Done a (text_of (Upto time) p) h (nobody_spends_by p time none, refl)
 federation_answers (Replay schedule) p None s a none buffers h = absurd h
 federation_answers (Replay schedule) p (Some r) s a none buffers h = answers_run schedule p r r.end s a (run_is_enough p schedule r none buffers h.0) h.1
 

@@ -6,13 +6,12 @@ use Rattle.kit_node.specs.declared.ends.End.TheVariants as ends
 use Rattle.kit_top.specs.declared.command.Command.{Command}
 use Rattle.kit_top.specs.declared.command.Command.TheVariants.{OnFederation, Regions}
 use Rattle.kit_top.specs.declared.command.FederationCommand.{FederationCommand}
-use Rattle.kit_top.specs.declared.command.FederationCommand.TheVariants.{Oracle, Check, Replay}
+use Rattle.kit_top.specs.declared.command.FederationCommand.TheVariants.{Oracle, Check, Replay, Upto}
 use Rattle.kit_top.specs.declared.ended.Ended.{Ended}
 use Rattle.kit_top.specs.declared.status.Status.{Status}
 use Rattle.kit_top.specs.declared.status.Status.TheVariants.{Done, Usage, ReadFault, TooLong, BadFile, Unfinished, NoBuffer, SendsSpent, RoundsSpent, WriteFault, NoMemory}
 use Rattle.kit_io.specs.declared.source.Source.{Ghosts}
 use Rattle.kit_rules.specs.Parts.{Parts}
-use Rattle.kit_rules.specs.Simulation.{spender}
 use Rattle.kit_rules.specs.Text.{simulation_text}
 use Rattle.kit_oracle.specs.Ends.{IfSpentAt}
 use Rattle.kit_oracle.specs.declared.end.OracleEnd.{OracleEnd}
@@ -20,7 +19,7 @@ use Rattle.kit_oracle.specs.declared.end.OracleEnd.TheVariants as oracle
 use Rattle.kit_file.specs.declared.fault.FileFault.{FileFault}
 use Rattle.kit_file.specs.declared.fault.FileFault.TheVariants as file
 use Rattle.kit_file.specs.Answers.{IsFaultAtPath, IsNoJson}
-use Rattle.kit_top.specs.Causes.{Told, AcceptedCauses, Causes, EndCauses, EndsWith, OracleEndCauses, FileCauses, FederationCauses, HasText, InputCauses, IsCommand, IsEnded, IsFileRun, IsLeft, IsRun, IsWhole, IsWithin, IsBadFile, IsTheFault, IsThis, IsAnswered, IsAsked, Run, SimulationCauses, text_of}
+use Rattle.kit_top.specs.Causes.{Told, AcceptedCauses, Causes, EndCauses, EndsWith, OracleEndCauses, FileCauses, FederationCauses, HasText, InputCauses, IsCommand, IsEnded, IsFileRun, IsLeft, IsRun, IsWhole, IsWithin, IsBadFile, IsTheFault, IsThis, IsAnswered, IsAsked, Run, SimulationCauses, spender_of, text_of}
 
 pub told_weaker : (A B : Status → List ℕ → Type 0) (old new : Option (List ℕ)) (s : Status) → ((s : Status) (text : List ℕ) → A s text → B s text) → Told A old new s → Told B old new s
 told_weaker A B old new Done f h = (h.0, f Done h.0 h.1, h.2)
@@ -67,6 +66,7 @@ end_status p ends.NoMemory s text h = absurd h
 federation_status : (command : FederationCommand) (p : Parts) (run : Option Run) (s : Status) (text : List ℕ) → FederationCauses command p run s text → IsRunStatus s
 federation_status Oracle p run s text h = simulation_status Oracle p s text h
 federation_status Check p run s text h = simulation_status Check p s text h
+federation_status (Upto time) p run s text h = simulation_status (Upto time) p s text h
 federation_status (Replay schedule) p None s text h = absurd h
 federation_status (Replay schedule) p (Some r) s text h = end_status p r.end s text h.1
 
@@ -171,6 +171,7 @@ end_done p ends.NoMemory text h = absurd h
 federation_done : (command : FederationCommand) (p : Parts) (run : Option Run) (text : List ℕ) → FederationCauses command p run Done text → IsWithin command p × (text ≡ text_of command p)
 federation_done Oracle p run text h = (h.0, h.1)
 federation_done Check p run text h = (h.0, h.1)
+federation_done (Upto time) p run text h = (h.0, h.1)
 federation_done (Replay schedule) p None text h = absurd h
 federation_done (Replay schedule) p (Some r) text h = (tt, end_done p r.end text h.1)
 
@@ -219,7 +220,7 @@ ends_weaker A B R Q old new ended causes runs h = record {
 }
 
 -- a simulation that ended without a text is that of its command
-pub oracle_causes : (command : FederationCommand) (p : Parts) (end : OracleEnd) → IfSpentAt end (λ i. spender p ≡ Some i) → (s : Status) (text : List ℕ) → OracleEndCauses p end s text → SimulationCauses command p s text
+pub oracle_causes : (command : FederationCommand) (p : Parts) (end : OracleEnd) → IfSpentAt end (λ i. spender_of command p ≡ Some i) → (s : Status) (text : List ℕ) → OracleEndCauses p end s text → SimulationCauses command p s text
 oracle_causes command p (oracle.SendsSpent i) spent s text h =
     let P : Status → Type 0 = λ s. SimulationCauses command p s text in
     subst P (sym h.0) (spent, h.1)
@@ -232,6 +233,7 @@ run_left_none g words old new r h = by h.0 h.4
     by : (command : Command) → IsFileRun command h.2 r → r.account ≡ None
     by (OnFederation Oracle) x = absurd x.2
     by (OnFederation Check) x = absurd x.2
+    by (OnFederation (Upto time)) x = absurd x.2
     by (OnFederation (Replay schedule)) x = x.2.1
     by Regions x = absurd x
 

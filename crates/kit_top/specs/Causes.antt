@@ -4,8 +4,11 @@ use Rattle.std.specs.Io.KnownBytes.{Appends}
 use Rattle.kit_io.specs.declared.source.Source.{Ghosts}
 use Rattle.kit_io.specs.Causes.{Rose, Took, TookAtMost}
 use Rattle.kit_io.specs.Reading.{ShowsEnd}
+use Rattle.kit_cut.specs.Cuts.{spender_by}
+use Rattle.kit_cut.specs.Upto.{upto_text}
 use Rattle.kit_rules.specs.Parts.{Parts, federate_at}
 use Rattle.kit_rules.specs.Need.{need_of}
+use Rattle.kit_rules.specs.Limits.{most_time}
 use Rattle.kit_rules.specs.Simulation.{spender}
 use Rattle.kit_rules.specs.Text.{simulation_text, check_text}
 use Rattle.kit_file.specs.declared.fault.FileFault.{FileFault}
@@ -25,15 +28,17 @@ use Rattle.kit_runner.specs.Runs.{LbtsAccount}
 use Rattle.kit_top.specs.declared.command.Command.{Command}
 use Rattle.kit_top.specs.declared.command.Command.TheVariants.{OnFederation, Regions}
 use Rattle.kit_top.specs.declared.command.FederationCommand.{FederationCommand}
-use Rattle.kit_top.specs.declared.command.FederationCommand.TheVariants.{Oracle, Check, Replay}
+use Rattle.kit_top.specs.declared.command.FederationCommand.TheVariants.{Oracle, Check, Replay, Upto}
 use Rattle.kit_top.specs.declared.ended.Ended.{Ended}
 use Rattle.kit_top.specs.declared.status.Status.{Status}
 use Rattle.kit_top.specs.declared.status.Status.TheVariants.{Done, Usage, ReadFault, TooLong, BadFile, Unfinished, NoBuffer, SendsSpent, RoundsSpent, WriteFault, NoMemory}
 
--- the words are those of a command on a federation: its one word, or `replay` and the words of its schedule
+-- the words are those of a command on a federation: its one word, or `replay` and the words of its schedule, or `upto` and a time in
+-- decimal digits without a leading 0
 abbrev pub IsFederationCommand : List (List ℕ) → FederationCommand → Type 0
 IsFederationCommand words Oracle = words ≡ codes "oracle" ∷ []
 IsFederationCommand words Check = words ≡ codes "check" ∷ []
+IsFederationCommand words (Upto time) = (time ≤ most_time) × (words ≡ codes "upto" ∷ decimal time ∷ [])
 IsFederationCommand words (Replay schedule) = (rest : List (List ℕ)) × (words ≡ codes "replay" ∷ rest) × IsSchedule rest schedule
 
 -- the words are those of a command
@@ -49,11 +54,18 @@ IsReplayCommand words = (schedule : List ℕ) × IsFederationCommand words (Repl
 abbrev pub IsNoCommand : List (List ℕ) → Type 0
 IsNoCommand words = (command : Command) → IsCommand words command → ⊥
 
--- what a command asks of a federation: the text of its sequential timestamp-ordered simulation, or that of its needs
+-- what a command asks of a federation: the text of its sequential timestamp-ordered simulation, that of its needs, or the lines of that
+-- simulation up to a time
 abbrev pub text_of : FederationCommand → Parts → List ℕ
 text_of Oracle p = simulation_text p
 text_of Check p = check_text p
 text_of (Replay schedule) p = simulation_text p
+text_of (Upto time) p = upto_text p time
+
+-- the federate that takes number 16,385 in what a command simulates: the simulation, or the simulation up to a time
+abbrev pub spender_of : FederationCommand → Parts → Option ℕ
+spender_of (Upto time) p = spender_by p time
+spender_of _ p = spender p
 
 -- what `regions` asks of the plan of a file, or of a file without one: a line for each update, or nothing
 abbrev pub plan_text : Option Plan → List ℕ
@@ -110,8 +122,8 @@ no_buffer_text p i number = codes "fault NoBuffer " ++ (federate_at p i).name ++
 
 -- what the simulation of a federation causes
 abbrev pub SimulationCauses : FederationCommand → Parts → Status → List ℕ → Type 0
-SimulationCauses command p Done text = (spender p ≡ None) × (text ≡ text_of command p)
-SimulationCauses command p (SendsSpent i) text = (spender p ≡ Some i) × (text ≡ spent_text p i)
+SimulationCauses command p Done text = (spender_of command p ≡ None) × (text ≡ text_of command p)
+SimulationCauses command p (SendsSpent i) text = (spender_of command p ≡ Some i) × (text ≡ spent_text p i)
 SimulationCauses command p _ text = ⊥
 
 -- what the end of a simulation without a text causes
@@ -163,6 +175,7 @@ abbrev pub FederationCauses : FederationCommand → Parts → Option Run → Sta
 FederationCauses (Replay schedule) p run s text = ReplayCauses schedule p run s text
 FederationCauses Oracle p run s text = SimulationCauses Oracle p s text
 FederationCauses Check p run s text = SimulationCauses Check p s text
+FederationCauses (Upto time) p run s text = SimulationCauses (Upto time) p s text
 
 -- the line of a fault with its path
 abbrev pub path_text : List ℕ → List ℕ → List ℕ
@@ -242,13 +255,13 @@ HasText WriteFault = ⊥
 HasText NoMemory = ⊥
 HasText s = Unit {0}
 
--- nobody takes number 16,385 in the simulation that `oracle` and `check` run
+-- nobody takes number 16,385 in what `oracle`, `check` and `upto` simulate
 abbrev pub IsWithin : FederationCommand → Parts → Type 0
 IsWithin (Replay schedule) p = Unit {0}
-IsWithin _ p = spender p ≡ None
+IsWithin command p = spender_of command p ≡ None
 
--- what a command asks of the file with these bytes: the text of the simulation of its federation, that of its needs, or the lines of
--- its regions
+-- what a command asks of the file with these bytes: the text of the simulation of its federation, its lines up to a time, the text of its
+-- needs, or the lines of its regions
 abbrev pub IsAsked : Command → List ℕ → List ℕ → Type 0
 IsAsked (OnFederation command) bytes text = (p : Parts) × IsAccepted bytes p × IsWithin command p × (text ≡ text_of command p)
 IsAsked Regions bytes text = (plan : Option Plan) × IsAcceptedPlan bytes plan × (text ≡ plan_text plan)
@@ -280,6 +293,7 @@ abbrev pub IsFederationRun : FederationCommand → Parts → Run → Type 0
 IsFederationRun (Replay schedule) p r = IsRunOf p schedule r
 IsFederationRun Oracle p r = ⊥
 IsFederationRun Check p r = ⊥
+IsFederationRun (Upto time) p r = ⊥
 
 abbrev pub IsFileRun : Command → List ℕ → Run → Type 0
 IsFileRun (OnFederation command) bytes r = (p : Parts) × IsAccepted bytes p × IsFederationRun command p r

@@ -1,7 +1,11 @@
-ghost use Rattle.std.specs.Prelude.{◌↔◌, IfOk, IfSome, IfNone, IsTrue};
+ghost use Rattle.std.specs.Prelude.{◌≡◌, ◌↔◌, ◌≤◌, ℕ, [], ◌∷◌, decimal, IfOk, IfSome, IfNone};
+ghost use Rattle.std.specs.Prelude.{IsTrue};
+ghost use Rattle.kit_rules.specs.Limits.{most_time};
 ghost use Rattle.kit_top.specs.Causes.{IsCommand, IsFederationCommand};
 
 use crate::Word;
+use crate::worker_command::number_in;
+use kit_rules::MOST_TIME;
 use kit_schedule::{Schedule, schedule_of};
 use std::alloc::{AllocError, Global};
 
@@ -24,6 +28,26 @@ pub enum FederationCommand {
     Check,
     /// `replay` and the words of a schedule: the text of the histories of a run with these turns.
     Replay(Schedule),
+    /// `upto` and a time: the lines of the sequential simulation up to that time.
+    Upto(u64),
+}
+
+/// The time that these words are, where they are one: from 0 to the greatest end time, in decimal
+/// digits without a leading 0.
+fn time_in(words: &[Word]) -> Option<u64>
+    ensures some { IfSome result
+        (λ time. (time ≤ most_time) × (words.now ≡ decimal time ∷ [])) }
+    ensures none { IfNone result
+        ((time : ℕ) → time ≤ most_time → words.now ≡ decimal time ∷ [] → ⊥) }
+{
+    let [word] = words else {
+        return None;
+    };
+    let time = number_in(word.bytes())?;
+    if time > MOST_TIME {
+        return None;
+    }
+    Some(time)
 }
 
 impl FederationCommand {
@@ -40,6 +64,12 @@ impl FederationCommand {
         if first.is("replay") {
             return match schedule_of(alloc, rest)? {
                 Some(schedule) => Ok(Some(FederationCommand::Replay(schedule))),
+                None => Ok(None),
+            };
+        }
+        if first.is("upto") {
+            return match time_in(rest) {
+                Some(time) => Ok(Some(FederationCommand::Upto(time))),
                 None => Ok(None),
             };
         }

@@ -83,7 +83,8 @@ fn answer<S: Source, K: Sink>(alloc: Global, words: &[Word], source: &mut S, sin
 /// names the fault, to the sink. It takes no threads and always returns.
 ///
 /// `oracle`, alone, writes the text of the file's sequential timestamp-ordered simulation, and
-/// `check` how many buffers each of its federates needs and whether there are enough. `replay` and
+/// `check` how many buffers each of its federates needs and whether there are enough. `upto` and a
+/// time write the lines of that simulation's grants of this time or earlier. `replay` and
 /// the words of a schedule ([`schedule_of`](kit_schedule::schedule_of)) run the federates as nodes
 /// over one floor, with these turns, and write the text of the histories that the nodes report.
 /// `regions`, alone, writes a line for each region of a file that has such, with the federates that
@@ -97,8 +98,9 @@ pub fn plain<S: Source, K: Sink>(
     sink: &mut K,
 ) -> Ended
     // Done: what was written is what the command asks of the file: for `oracle` and `replay` the
-    // text of its sequential timestamp-ordered simulation, for `check` that of its needs, for
-    // `regions` the lines of its plan's regions, or nothing where it has no plan.
+    // text of its sequential timestamp-ordered simulation, for `upto` its lines up to a time, for
+    // `check` the text of its needs, for `regions` the lines of its plan's regions, or nothing
+    // where it has no plan.
     ensures done { result.status ≡ Status.Done →
         IsAnswered S.Source words.now source.old source.new (K.holds sink.old) (K.holds sink.new) }
 

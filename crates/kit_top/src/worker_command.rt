@@ -68,7 +68,7 @@ fn workers_in(digits: &[u8]) -> Option<u8>
 
 /// The number that these digits are, where it is one without a leading 0 (0 itself is `0`) and has
 /// room in 64 bits.
-fn number_in(digits: &[u8]) -> Option<u64>
+pub(crate) fn number_in(digits: &[u8]) -> Option<u64>
     ensures some { IfSome result (λ n. digits.now ≡ decimal n) }
     ensures room { IfSome result (λ n. n < 2 ^ 64) }
     ensures none { IfNone result ((n : ℕ) → n < 2 ^ 64 → digits.now ≡ decimal n → ⊥) }

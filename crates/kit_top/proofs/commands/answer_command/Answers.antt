@@ -1,4 +1,4 @@
-use Rattle.std.proofs.Common.{None, subst}
+use Rattle.std.proofs.Common.{subst}
 use Rattle.kit_top.specs.declared.command.Command.{Command}
 use Rattle.kit_top.specs.Causes.{Causes, IsCommand, IsRun}
 use Rattle.kit_top.proofs.Telling.{ends_empty}
