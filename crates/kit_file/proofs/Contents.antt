@@ -1,12 +1,12 @@
 -- What a file says: its federation and its plan, or its fault.
 use Rattle.std.proofs.Common.{Result, Ok, Err, refl}
 use Rattle.serde_json.specs.Data.{Data}
-use Rattle.kit_file.specs.declared.fault.Fault.{Fault}
+use Rattle.kit_walk.specs.declared.fault.Fault.{Fault}
 use Rattle.kit_file.specs.declared.content.Content.{Content}
-use Rattle.kit_file.specs.declared.fault.WalkEnd.{WalkEnd}
-use Rattle.kit_file.specs.declared.fault.WalkEnd.TheVariants as walk_end
-use Rattle.kit_file.specs.Reading.{◌>>=◌}
-use Rattle.kit_file.specs.Agreement.{Gives}
+use Rattle.kit_walk.specs.declared.fault.WalkEnd.{WalkEnd}
+use Rattle.kit_walk.specs.declared.fault.WalkEnd.TheVariants as walk_end
+use Rattle.kit_walk.specs.Reading.{◌>>=◌}
+use Rattle.kit_walk.specs.Agreement.{Gives}
 use Rattle.kit_file.specs.Walk.{content_of, walk, plan_walk}
 
 -- a part of what was read is that part of what reading gives

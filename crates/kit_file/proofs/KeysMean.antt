@@ -14,15 +14,15 @@ use Rattle.kit_regions.specs.declared.region.Update.{Update}
 use Rattle.kit_regions.specs.Plan.{Plan}
 use Rattle.kit_regions.specs.Lowered.{lowered_federate, federation_of, crowded_federate}
 use Rattle.kit_rules.specs.declared.table.Federate.{Federate}
-use Rattle.kit_file.specs.declared.fault.FaultKind.{FaultKind}
-use Rattle.kit_file.specs.declared.fault.FaultKind.TheVariants as kind
-use Rattle.kit_file.specs.declared.fault.Fault.{Fault}
+use Rattle.kit_walk.specs.declared.fault.FaultKind.{FaultKind}
+use Rattle.kit_walk.specs.declared.fault.FaultKind.TheVariants as kind
+use Rattle.kit_walk.specs.declared.fault.Fault.{Fault}
 use Rattle.kit_file.specs.declared.known.Known.{Known}
 use Rattle.kit_file.specs.declared.subscribers.Subscribed.{Subscribed}
 use Rattle.kit_file.specs.declared.content.Content.{Content}
-use Rattle.kit_file.specs.Paths.{key_path, item_path}
-use Rattle.kit_file.specs.Reading.{◌>>=◌, fault_at, within, or_fault, each}
-use Rattle.kit_file.specs.Places.{object, member, number, list, list_of, data_of}
+use Rattle.kit_walk.specs.Paths.{key_path, item_path}
+use Rattle.kit_walk.specs.Reading.{◌>>=◌, fault_at, within, or_fault, each}
+use Rattle.kit_walk.specs.Places.{object, member, number, list, list_of, data_of}
 use Rattle.kit_file.specs.FederateNames.{federate_names_of}
 use Rattle.kit_file.specs.Names.{group_name, update_name}
 use Rattle.kit_file.specs.Groups.{groups_of}

@@ -1,7 +1,4 @@
-pub mod Views
-pub mod Rest
 pub mod Pushes
-pub mod Ends
 pub mod Subscribed
 pub mod Making
 pub mod Contents

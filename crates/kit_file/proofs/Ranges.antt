@@ -12,11 +12,11 @@ use Rattle.kit_rules.specs.declared.table.Operand.TheVariants as operand
 use Rattle.kit_rules.specs.declared.table.Action.TheVariants as action
 use Rattle.kit_rules.specs.Names.{IsName, is_name}
 use Rattle.kit_rules.proofs.NameForms.{names_are_tested_law}
-use Rattle.kit_file.specs.declared.fault.FaultKind.TheVariants as kind
-use Rattle.kit_file.specs.declared.fault.Fault.{Fault}
-use Rattle.kit_file.specs.Paths.{key_path}
-use Rattle.kit_file.specs.Reading.{◌>>=◌, fault_at, or_fault}
-use Rattle.kit_file.specs.Places.{member, number, text, list, list_of, optional_list, data_of, is_same}
+use Rattle.kit_walk.specs.declared.fault.FaultKind.TheVariants as kind
+use Rattle.kit_walk.specs.declared.fault.Fault.{Fault}
+use Rattle.kit_walk.specs.Paths.{key_path}
+use Rattle.kit_walk.specs.Reading.{◌>>=◌, fault_at, or_fault}
+use Rattle.kit_walk.specs.Places.{member, number, text, list, list_of, optional_list, data_of, is_same}
 use Rattle.kit_file.specs.Names.{itself, var_name, group_name, update_name, name, is_given}
 use Rattle.kit_file.specs.Actions.{delay_of, tar_of, ner_of}
 use Rattle.kit_file.specs.Laws.{number_under}

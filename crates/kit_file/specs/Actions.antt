@@ -6,11 +6,11 @@ use Rattle.kit_rules.specs.Limits.{most_actions, most_time}
 use Rattle.kit_rules.specs.declared.table.Var.{Var}
 use Rattle.kit_rules.specs.declared.table.Action.{Action}
 use Rattle.kit_rules.specs.declared.table.Action.TheVariants as action
-use Rattle.kit_file.specs.declared.fault.FaultKind.TheVariants as kind
-use Rattle.kit_file.specs.declared.fault.Fault.{Fault}
-use Rattle.kit_file.specs.Paths.{key_path, item_path}
-use Rattle.kit_file.specs.Reading.{◌>>=◌, fault_at, within, guard, each}
-use Rattle.kit_file.specs.Places.{object, has, number, list}
+use Rattle.kit_walk.specs.declared.fault.FaultKind.TheVariants as kind
+use Rattle.kit_walk.specs.declared.fault.Fault.{Fault}
+use Rattle.kit_walk.specs.Paths.{key_path, item_path}
+use Rattle.kit_walk.specs.Reading.{◌>>=◌, fault_at, within, guard, each}
+use Rattle.kit_walk.specs.Places.{object, has, number, list}
 use Rattle.kit_file.specs.Names.{itself, var_name, reference}
 use Rattle.kit_file.specs.Operands.{operand_of}
 use Rattle.kit_file.specs.Lookaheads.{needed_lookahead}

@@ -1,10 +1,10 @@
 -- The names of the federates.
 use Rattle.std.specs.Prelude.{ℕ, List, [], ◌∷◌, ◌++◌, Result, Ok, codes}
 use Rattle.serde_json.specs.Data.{Data}
-use Rattle.kit_file.specs.declared.fault.Fault.{Fault}
-use Rattle.kit_file.specs.Paths.{item_path}
-use Rattle.kit_file.specs.Reading.{◌>>=◌, within, each}
-use Rattle.kit_file.specs.Places.{object}
+use Rattle.kit_walk.specs.declared.fault.Fault.{Fault}
+use Rattle.kit_walk.specs.Paths.{item_path}
+use Rattle.kit_walk.specs.Reading.{◌>>=◌, within, each}
+use Rattle.kit_walk.specs.Places.{object}
 use Rattle.kit_file.specs.Names.{itself, new_name}
 
 -- the name of one federate, after these

@@ -5,12 +5,12 @@ use Rattle.kit_rules.specs.Limits.{most_time}
 use Rattle.kit_rules.specs.declared.table.Federate.{Federate}
 use Rattle.kit_rules.specs.declared.table.Wish.{Wish}
 use Rattle.kit_rules.specs.declared.table.Wish.TheVariants as wish
-use Rattle.kit_file.specs.declared.fault.FaultKind.TheVariants as kind
-use Rattle.kit_file.specs.declared.fault.Fault.{Fault}
+use Rattle.kit_walk.specs.declared.fault.FaultKind.TheVariants as kind
+use Rattle.kit_walk.specs.declared.fault.Fault.{Fault}
 use Rattle.kit_file.specs.declared.known.Known.{Known}
-use Rattle.kit_file.specs.Paths.{key_path, item_path}
-use Rattle.kit_file.specs.Reading.{◌>>=◌, fault_at, within, each}
-use Rattle.kit_file.specs.Places.{object, has, member, number}
+use Rattle.kit_walk.specs.Paths.{key_path, item_path}
+use Rattle.kit_walk.specs.Reading.{◌>>=◌, fault_at, within, each}
+use Rattle.kit_walk.specs.Places.{object, has, member, number}
 use Rattle.kit_file.specs.Variables.{vars_of}
 use Rattle.kit_file.specs.Rules.{rules_of}
 use Rattle.kit_file.specs.Lookaheads.{lookahead_of}

@@ -4,11 +4,11 @@ use Rattle.serde_json.specs.Data.{Data}
 use Rattle.serde_json.specs.Find.{get, as_str}
 use Rattle.kit_rules.specs.Limits.{most_federates, most_groups}
 use Rattle.kit_rules.specs.declared.table.Group.{Group}
-use Rattle.kit_file.specs.declared.fault.FaultKind.TheVariants as kind
-use Rattle.kit_file.specs.declared.fault.Fault.{Fault}
-use Rattle.kit_file.specs.Paths.{item_path}
-use Rattle.kit_file.specs.Reading.{◌>>=◌, fault_at, within, or_fault, each}
-use Rattle.kit_file.specs.Places.{object, list, optional_list}
+use Rattle.kit_walk.specs.declared.fault.FaultKind.TheVariants as kind
+use Rattle.kit_walk.specs.declared.fault.Fault.{Fault}
+use Rattle.kit_walk.specs.Paths.{item_path}
+use Rattle.kit_walk.specs.Reading.{◌>>=◌, fault_at, within, or_fault, each}
+use Rattle.kit_walk.specs.Places.{object, list, optional_list}
 use Rattle.kit_file.specs.Names.{itself, group_name, new_name, position_of}
 
 -- a federate that is named by a text, by its index

@@ -5,10 +5,10 @@ use Rattle.serde_json.specs.Data.{Data}
 use Rattle.serde_json.specs.Find.{get, as_bool, as_number, as_u64, as_array}
 use Rattle.kit_rules.specs.declared.table.Federate.{Federate}
 use Rattle.kit_rules.specs.Parts.{Parts}
-use Rattle.kit_file.specs.Places.{data_of}
+use Rattle.kit_walk.specs.Places.{data_of}
 use Rattle.kit_regions.specs.Plan.{Plan}
 use Rattle.kit_regions.specs.Lowered.{federation_of, crowded_federate}
-use Rattle.kit_file.specs.declared.fault.Fault.{Fault}
+use Rattle.kit_walk.specs.declared.fault.Fault.{Fault}
 use Rattle.kit_file.specs.Walk.{walk, plan_walk}
 
 -- the number under a key

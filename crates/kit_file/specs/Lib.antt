@@ -1,7 +1,3 @@
-pub mod Paths
-pub mod Reading
-pub mod Agreement
-pub mod Places
 pub mod Names
 pub mod Variables
 pub mod Operands

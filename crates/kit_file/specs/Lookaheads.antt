@@ -3,11 +3,11 @@ use Rattle.std.specs.Prelude.{ℕ, List, Bool, true, false, ◌==◌, if◌then�
 use Rattle.serde_json.specs.Data.{Data}
 use Rattle.serde_json.specs.Find.{get, as_bool}
 use Rattle.kit_rules.specs.Limits.{most_time}
-use Rattle.kit_file.specs.declared.fault.FaultKind.TheVariants as kind
-use Rattle.kit_file.specs.declared.fault.Fault.{Fault}
-use Rattle.kit_file.specs.Paths.{key_path}
-use Rattle.kit_file.specs.Reading.{◌>>=◌, or_fault}
-use Rattle.kit_file.specs.Places.{number}
+use Rattle.kit_walk.specs.declared.fault.FaultKind.TheVariants as kind
+use Rattle.kit_walk.specs.declared.fault.Fault.{Fault}
+use Rattle.kit_walk.specs.Paths.{key_path}
+use Rattle.kit_walk.specs.Reading.{◌>>=◌, or_fault}
+use Rattle.kit_walk.specs.Places.{number}
 
 -- what the key says; where it is absent the federate is regulating
 abbrev pub regulating_in : Option Data → Result Bool Fault

@@ -6,11 +6,11 @@ use Rattle.kit_rules.specs.declared.table.Var.{Var}
 use Rattle.kit_rules.specs.declared.table.Group.{Group}
 use Rattle.kit_regions.specs.declared.region.Update.{Update}
 use Rattle.kit_rules.specs.Names.{is_name}
-use Rattle.kit_file.specs.declared.fault.FaultKind.TheVariants as kind
-use Rattle.kit_file.specs.declared.fault.Fault.{Fault}
-use Rattle.kit_file.specs.Paths.{key_path}
-use Rattle.kit_file.specs.Reading.{◌>>=◌, fault_at, or_fault}
-use Rattle.kit_file.specs.Places.{text, is_same}
+use Rattle.kit_walk.specs.declared.fault.FaultKind.TheVariants as kind
+use Rattle.kit_walk.specs.declared.fault.Fault.{Fault}
+use Rattle.kit_walk.specs.Paths.{key_path}
+use Rattle.kit_walk.specs.Reading.{◌>>=◌, fault_at, or_fault}
+use Rattle.kit_walk.specs.Places.{text, is_same}
 
 -- a name, of itself
 abbrev pub itself : List ℕ → List ℕ

@@ -5,11 +5,11 @@ use Rattle.serde_json.specs.Find.{as_str}
 use Rattle.kit_rules.specs.declared.table.Var.{Var}
 use Rattle.kit_rules.specs.declared.table.Operand.{Operand}
 use Rattle.kit_rules.specs.declared.table.Operand.TheVariants as operand
-use Rattle.kit_file.specs.declared.fault.FaultKind.TheVariants as kind
-use Rattle.kit_file.specs.declared.fault.Fault.{Fault}
-use Rattle.kit_file.specs.Paths.{key_path}
-use Rattle.kit_file.specs.Reading.{◌>>=◌, or_fault}
-use Rattle.kit_file.specs.Places.{member, number, is_same}
+use Rattle.kit_walk.specs.declared.fault.FaultKind.TheVariants as kind
+use Rattle.kit_walk.specs.declared.fault.Fault.{Fault}
+use Rattle.kit_walk.specs.Paths.{key_path}
+use Rattle.kit_walk.specs.Reading.{◌>>=◌, or_fault}
+use Rattle.kit_walk.specs.Places.{member, number, is_same}
 use Rattle.kit_file.specs.Names.{var_name, position_of}
 
 -- a text: the two words, or the name of a variable

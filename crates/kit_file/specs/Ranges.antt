@@ -10,8 +10,8 @@ use Rattle.kit_rules.specs.Limits.{most_time, most_buffers, most_federates, most
 use Rattle.kit_rules.specs.Names.{IsName}
 use Rattle.kit_rules.specs.Federation.{IsStep}
 use Rattle.kit_regions.specs.Limits.{most_updates, most_subscriptions}
-use Rattle.kit_file.specs.declared.fault.Fault.{Fault}
-use Rattle.kit_file.specs.Places.{data_of}
+use Rattle.kit_walk.specs.declared.fault.Fault.{Fault}
+use Rattle.kit_walk.specs.Places.{data_of}
 use Rattle.kit_file.specs.Names.{itself, var_name, group_name, update_name, name, fresh}
 use Rattle.kit_file.specs.Lookaheads.{lookahead_if}
 use Rattle.kit_file.specs.Operands.{operand_in}

@@ -5,10 +5,10 @@ use Rattle.serde_json.specs.Find.{get}
 use Rattle.kit_regions.specs.Limits.{most_updates}
 use Rattle.kit_regions.specs.declared.region.Range.{Range}
 use Rattle.kit_regions.specs.declared.region.Update.{Update}
-use Rattle.kit_file.specs.declared.fault.Fault.{Fault}
-use Rattle.kit_file.specs.Paths.{item_path}
-use Rattle.kit_file.specs.Reading.{◌>>=◌, within, each}
-use Rattle.kit_file.specs.Places.{object, number, optional_list}
+use Rattle.kit_walk.specs.declared.fault.Fault.{Fault}
+use Rattle.kit_walk.specs.Paths.{item_path}
+use Rattle.kit_walk.specs.Reading.{◌>>=◌, within, each}
+use Rattle.kit_walk.specs.Places.{object, number, optional_list}
 use Rattle.kit_file.specs.Names.{itself, update_name, new_name, reference}
 
 -- the key from, of 32 bits and not the last of them

@@ -10,12 +10,12 @@ use Rattle.kit_rules.specs.declared.table.Cond.{Cond}
 use Rattle.kit_rules.specs.declared.table.Trigger.{Trigger}
 use Rattle.kit_rules.specs.declared.table.Trigger.TheVariants as trigger
 use Rattle.kit_rules.specs.declared.table.Rule.{Rule}
-use Rattle.kit_file.specs.declared.fault.FaultKind.TheVariants as kind
-use Rattle.kit_file.specs.declared.fault.Fault.{Fault}
+use Rattle.kit_walk.specs.declared.fault.FaultKind.TheVariants as kind
+use Rattle.kit_walk.specs.declared.fault.Fault.{Fault}
 use Rattle.kit_file.specs.declared.known.Known.{Known}
-use Rattle.kit_file.specs.Paths.{key_path, item_path}
-use Rattle.kit_file.specs.Reading.{◌>>=◌, fault_at, within, or_fault, each}
-use Rattle.kit_file.specs.Places.{object, member, text, is_same, optional_list}
+use Rattle.kit_walk.specs.Paths.{key_path, item_path}
+use Rattle.kit_walk.specs.Reading.{◌>>=◌, fault_at, within, or_fault, each}
+use Rattle.kit_walk.specs.Places.{object, member, text, is_same, optional_list}
 use Rattle.kit_file.specs.Names.{itself, reference}
 use Rattle.kit_file.specs.Operands.{operand_of}
 use Rattle.kit_file.specs.Actions.{actions_of}

@@ -3,11 +3,11 @@ use Rattle.std.specs.Prelude.{ℕ, List, [], ◌∷◌, ◌++◌, Result, Ok, co
 use Rattle.serde_json.specs.Data.{Data}
 use Rattle.kit_regions.specs.Limits.{most_subscriptions}
 use Rattle.kit_regions.specs.declared.region.Subscription.{Subscription}
-use Rattle.kit_file.specs.declared.fault.Fault.{Fault}
+use Rattle.kit_walk.specs.declared.fault.Fault.{Fault}
 use Rattle.kit_file.specs.declared.subscribers.Subscribed.{Subscribed}
-use Rattle.kit_file.specs.Paths.{item_path}
-use Rattle.kit_file.specs.Reading.{◌>>=◌, within, each}
-use Rattle.kit_file.specs.Places.{object, list}
+use Rattle.kit_walk.specs.Paths.{item_path}
+use Rattle.kit_walk.specs.Reading.{◌>>=◌, within, each}
+use Rattle.kit_walk.specs.Places.{object, list}
 use Rattle.kit_file.specs.Names.{itself, new_name, reference}
 use Rattle.kit_file.specs.Groups.{group_list_of}
 use Rattle.kit_file.specs.Regions.{range_of}

@@ -4,10 +4,10 @@ use Rattle.serde_json.specs.Data.{Data}
 use Rattle.serde_json.specs.Find.{get}
 use Rattle.kit_rules.specs.Limits.{most_vars}
 use Rattle.kit_rules.specs.declared.table.Var.{Var}
-use Rattle.kit_file.specs.declared.fault.Fault.{Fault}
-use Rattle.kit_file.specs.Paths.{item_path}
-use Rattle.kit_file.specs.Reading.{◌>>=◌, within, each}
-use Rattle.kit_file.specs.Places.{object, number, optional_list}
+use Rattle.kit_walk.specs.declared.fault.Fault.{Fault}
+use Rattle.kit_walk.specs.Paths.{item_path}
+use Rattle.kit_walk.specs.Reading.{◌>>=◌, within, each}
+use Rattle.kit_walk.specs.Places.{object, number, optional_list}
 use Rattle.kit_file.specs.Names.{var_name, new_name}
 
 -- the key value, of 32 bits

@@ -5,12 +5,12 @@ use Rattle.kit_rules.specs.Limits.{most_buffers, most_federates, most_time}
 use Rattle.kit_rules.specs.Parts.{Parts}
 use Rattle.kit_regions.specs.Plan.{Plan}
 use Rattle.kit_regions.specs.Lowered.{federation_of, crowded_federate}
-use Rattle.kit_file.specs.declared.fault.FaultKind.TheVariants as kind
-use Rattle.kit_file.specs.declared.fault.Fault.{Fault}
+use Rattle.kit_walk.specs.declared.fault.FaultKind.TheVariants as kind
+use Rattle.kit_walk.specs.declared.fault.Fault.{Fault}
 use Rattle.kit_file.specs.declared.content.Content.{Content}
-use Rattle.kit_file.specs.Paths.{key_path, item_path}
-use Rattle.kit_file.specs.Reading.{◌>>=◌, fault_at, within}
-use Rattle.kit_file.specs.Places.{object, number, list}
+use Rattle.kit_walk.specs.Paths.{key_path, item_path}
+use Rattle.kit_walk.specs.Reading.{◌>>=◌, fault_at, within}
+use Rattle.kit_walk.specs.Places.{object, number, list}
 use Rattle.kit_file.specs.Names.{group_name, update_name}
 use Rattle.kit_file.specs.FederateNames.{federate_names_of}
 use Rattle.kit_file.specs.Groups.{groups_of}

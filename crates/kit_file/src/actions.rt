@@ -7,18 +7,17 @@ ghost use Rattle.serde_json.specs.Find.{get};
 ghost use Rattle.kit_rules.specs.Federation.{IsAction};
 ghost use Rattle.kit_rules.specs.Limits.{most_actions, most_vars};
 ghost use Rattle.kit_regions.specs.Limits.{most_updates};
-ghost use Rattle.kit_file.specs.Agreement.{Gives};
+ghost use Rattle.kit_walk.specs.Agreement.{Gives};
 ghost use Rattle.kit_file.specs.Actions.{set_of, add_of, sub_of, retract_of, tar_of, ner_of};
 ghost use Rattle.kit_file.specs.Actions.{last_kinds_of, action_of, action_step, actions_of};
 
-use crate::fault::{Fault, FaultKind, WalkEnd};
 use crate::lookaheads::needed_at;
 use crate::names::reference_at;
 use crate::operands::operand_at;
-use crate::places::{list_at, number_at, object_here};
 use crate::sends::send_in;
 use kit_base::Items;
 use kit_rules::{Action, MOST_ACTIONS, MOST_TIME, Name, Var};
+use kit_walk::{Fault, FaultKind, WalkEnd, list_at, number_at, object_here};
 use serde_json::Value;
 use std::alloc::Global;
 
@@ -149,7 +148,7 @@ fn action_in(
     last_kinds_in(alloc, vars, lookahead, value)
 }
 
-#[tactic(auto, using(crate::proofs::Ends::fails_before, crate::proofs::Pushes::all_and_one), unfolding(crate::specs::Actions::action_step))]
+#[tactic(auto, using(kit_walk::proofs::Ends::fails_before, crate::proofs::Pushes::all_and_one), unfolding(crate::specs::Actions::action_step))]
 fn push_action(
     alloc: Global,
     targets: &[Name],

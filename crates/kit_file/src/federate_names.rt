@@ -3,19 +3,18 @@
 ghost use Rattle.std.specs.Prelude.{◌≡◌, ◌+◌, IfOk, OnOk, ◌<◌, ◌≤◌, ◌++◌, ◌∷◌, [], codes, map};
 ghost use Rattle.std.specs.Prelude.{length};
 ghost use Rattle.serde_json.specs.View.{view};
-ghost use Rattle.kit_file.specs.Agreement.{Gives};
-ghost use Rattle.kit_file.specs.Reading.{within};
+ghost use Rattle.kit_walk.specs.Agreement.{Gives};
+ghost use Rattle.kit_walk.specs.Reading.{within};
 ghost use Rattle.kit_file.specs.SoFar.{AreNames, IsNewName};
 ghost use Rattle.kit_file.specs.Names.{itself};
 ghost use Rattle.kit_file.specs.FederateNames.{federate_name_of, federate_name_step};
 ghost use Rattle.kit_file.specs.FederateNames.{federate_names_of};
-ghost use Rattle.kit_file.specs.Paths.{item_path};
+ghost use Rattle.kit_walk.specs.Paths.{item_path};
 
-use crate::fault::WalkEnd;
 use crate::names::new_name_at;
-use crate::places::object_here;
 use kit_base::Items;
 use kit_rules::Name;
+use kit_walk::{WalkEnd, object_here};
 use serde_json::Value;
 use std::alloc::Global;
 
@@ -28,7 +27,7 @@ fn federate_name_in<'v>(alloc: Global, done: &[Name], value: &'v Value) -> Resul
     new_name_at(alloc, value, "name", done)
 }
 
-#[tactic(auto, using(crate::proofs::Ends::fails_before, crate::proofs::Pushes::one_more_name), unfolding(crate::specs::FederateNames::federate_name_step))]
+#[tactic(auto, using(kit_walk::proofs::Ends::fails_before, crate::proofs::Pushes::one_more_name), unfolding(crate::specs::FederateNames::federate_name_step))]
 fn push_federate_name(
     alloc: Global,
     i: usize,

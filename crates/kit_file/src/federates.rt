@@ -4,30 +4,30 @@ ghost use Rattle.std.specs.Prelude.{◌≡◌, ◌+◌, IfOk, OnOk, ◌<◌, ◌
 ghost use Rattle.std.specs.Prelude.{length, slice_index_or};
 ghost use Rattle.serde_json.specs.View.{view};
 ghost use Rattle.kit_rules.specs.Limits.{most_federates};
-ghost use Rattle.kit_file.specs.Agreement.{Gives};
-ghost use Rattle.kit_file.specs.Reading.{within};
+ghost use Rattle.kit_walk.specs.Agreement.{Gives};
+ghost use Rattle.kit_walk.specs.Reading.{within};
 ghost use Rattle.kit_file.specs.SoFar.{AreNames, AreKnown, AreFederatesSoFar};
 ghost use Rattle.kit_file.specs.Names.{itself};
 ghost use Rattle.kit_file.specs.Federates.{wish_of, advance_of, federate_of, federate_step};
 ghost use Rattle.kit_file.specs.Federates.{federates_of};
-ghost use Rattle.kit_file.specs.Paths.{item_path};
+ghost use Rattle.kit_walk.specs.Paths.{item_path};
 ghost use Rattle.kit_rules.specs.Names.{IsName};
 ghost use Rattle.kit_rules.specs.Federation.{IsWish};
 ghost use Rattle.kit_regions.specs.Limits.{IsPlannedFederate, ArePlannedFederates};
 
-use crate::fault::{Fault, FaultKind, WalkEnd};
 use crate::known::Known;
 use crate::lookaheads::lookahead_at;
-use crate::places::{member_at, number_at, object_here};
 use crate::rules::rules_in;
 use crate::variables::vars_in;
 use kit_base::Items;
 use kit_rules::{Federate, MOST_TIME, Name, Wish};
+use kit_walk::{Fault, FaultKind, WalkEnd, member_at, number_at, object_here};
 use serde_json::Value;
 use std::alloc::Global;
 
+/// The wish that an object says, with its step under `tar` or `ner`; `tar` counts where it has both.
 #[tactic(auto, unfolding(crate::specs::Federates::wish_of))]
-fn wish_in(alloc: Global, value: &Value) -> Result<Wish, WalkEnd>
+pub fn wish_in(alloc: Global, value: &Value) -> Result<Wish, WalkEnd>
     ensures exact { Gives (λ w. w) result (wish_of (view value.now)) }
     ensures sound { IfOk result (λ w. IsWish w) }
 {
@@ -43,7 +43,7 @@ fn wish_in(alloc: Global, value: &Value) -> Result<Wish, WalkEnd>
     Err(WalkEnd::Fault(Fault::at_key(alloc, FaultKind::Missing, "tar")?))
 }
 
-#[tactic(auto, using(crate::proofs::Ends::fails_within), unfolding(crate::specs::Federates::advance_of))]
+#[tactic(auto, using(kit_walk::proofs::Ends::fails_within), unfolding(crate::specs::Federates::advance_of))]
 fn advance_in(alloc: Global, value: &Value) -> Result<Wish, WalkEnd>
     ensures exact { Gives (λ w. w) result (advance_of (view value.now)) }
     ensures sound { IfOk result (λ w. IsWish w) }
@@ -84,7 +84,7 @@ fn federate_in(
     })
 }
 
-#[tactic(auto, using(crate::proofs::Ends::fails_before, crate::proofs::Pushes::one_more_federate), unfolding(crate::specs::Federates::federate_step))]
+#[tactic(auto, using(kit_walk::proofs::Ends::fails_before, crate::proofs::Pushes::one_more_federate), unfolding(crate::specs::Federates::federate_step))]
 fn push_federate(
     alloc: Global,
     version: u64,

@@ -4,20 +4,19 @@ ghost use Rattle.std.specs.Prelude.{◌≡◌, ◌+◌, ◌^◌, IfOk, OnOk, ◌
 ghost use Rattle.std.specs.Prelude.{length};
 ghost use Rattle.serde_json.specs.View.{view};
 ghost use Rattle.kit_rules.specs.Limits.{most_federates};
-ghost use Rattle.kit_file.specs.Agreement.{Gives};
-ghost use Rattle.kit_file.specs.Reading.{within};
+ghost use Rattle.kit_walk.specs.Agreement.{Gives};
+ghost use Rattle.kit_walk.specs.Reading.{within};
 ghost use Rattle.kit_file.specs.SoFar.{IsNewName, AreGroupsSoFar};
 ghost use Rattle.kit_file.specs.Names.{itself, group_name};
 ghost use Rattle.kit_file.specs.Groups.{member_of, member_step, members_of, group_of, group_step};
 ghost use Rattle.kit_file.specs.Groups.{groups_of};
-ghost use Rattle.kit_file.specs.Paths.{item_path};
+ghost use Rattle.kit_walk.specs.Paths.{item_path};
 ghost use Rattle.kit_rules.specs.Federation.{IsGroup, AreGroups};
 
-use crate::fault::{Fault, FaultKind, WalkEnd};
 use crate::names::{new_name_at, position_in};
-use crate::places::{list_at, object_here, optional_list_at};
 use kit_base::Items;
 use kit_rules::{Group, MOST_FEDERATES, MOST_GROUPS, Name};
+use kit_walk::{Fault, FaultKind, WalkEnd, list_at, object_here, optional_list_at};
 use serde_json::Value;
 use std::alloc::Global;
 
@@ -42,7 +41,7 @@ fn with_member(alloc: Global, names: &[Name], bits: u16, value: &Value) -> Resul
     }
 }
 
-#[tactic(auto, using(crate::proofs::Ends::fails_within), unfolding(crate::specs::Groups::member_step))]
+#[tactic(auto, using(kit_walk::proofs::Ends::fails_within), unfolding(crate::specs::Groups::member_step))]
 fn with_item(
     alloc: Global,
     names: &[Name],
@@ -91,7 +90,7 @@ fn group_in(alloc: Global, names: &[Name], done: &[Group], value: &Value) -> Res
     })
 }
 
-#[tactic(auto, using(crate::proofs::Ends::fails_before, crate::proofs::Pushes::one_more_group), unfolding(crate::specs::Groups::group_step))]
+#[tactic(auto, using(kit_walk::proofs::Ends::fails_before, crate::proofs::Pushes::one_more_group), unfolding(crate::specs::Groups::group_step))]
 fn push_group(
     alloc: Global,
     names: &[Name],

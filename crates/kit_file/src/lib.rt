@@ -4,7 +4,6 @@
 
 mod actions;
 mod content;
-mod fault;
 mod federate_names;
 mod federates;
 mod groups;
@@ -13,7 +12,6 @@ mod laws;
 mod lookaheads;
 mod names;
 mod operands;
-mod places;
 mod plans;
 mod reading;
 mod regions;
@@ -22,6 +20,6 @@ mod sends;
 mod subscribers;
 mod variables;
 
-pub use fault::{FaultPath, FileFault};
+pub use federates::wish_in;
 pub use laws::{keys_mean, places_take_their_range, plans_mean};
-pub use reading::{read_federation, read_plan};
+pub use reading::{federation_of, read_federation, read_plan};

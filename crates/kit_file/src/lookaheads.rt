@@ -3,12 +3,11 @@
 ghost use Rattle.std.specs.Prelude.{◌≡◌, IfOk, IfSome};
 ghost use Rattle.serde_json.specs.View.{view};
 ghost use Rattle.kit_rules.specs.Federation.{IsStep};
-ghost use Rattle.kit_file.specs.Agreement.{Gives};
+ghost use Rattle.kit_walk.specs.Agreement.{Gives};
 ghost use Rattle.kit_file.specs.Lookaheads.{regulating_of, lookahead_of, needed_lookahead};
 
-use crate::fault::{Fault, FaultKind, WalkEnd};
-use crate::places::number_at;
 use kit_rules::MOST_TIME;
+use kit_walk::{Fault, FaultKind, WalkEnd, number_at};
 use serde_json::Value;
 use std::alloc::Global;
 

@@ -6,12 +6,11 @@ ghost use Rattle.serde_json.specs.View.{view};
 ghost use Rattle.kit_rules.specs.Names.{IsName};
 ghost use Rattle.kit_file.specs.SoFar.{IsNewName};
 ghost use Rattle.kit_file.specs.Names.{position_of, reference, name, fresh, is_given, new_name};
-ghost use Rattle.kit_file.specs.Agreement.{Gives};
+ghost use Rattle.kit_walk.specs.Agreement.{Gives};
 
-use crate::fault::{Fault, FaultKind, WalkEnd};
-use crate::places::text_at;
 use kit_base::Items;
 use kit_rules::{Name, Named, is_name};
+use kit_walk::{Fault, FaultKind, WalkEnd, text_at};
 use serde_json::Value;
 use std::alloc::{AllocError, Global};
 

@@ -4,13 +4,12 @@ ghost use Rattle.std.specs.Prelude.{◌≡◌, ◌≤◌, length, IfOk};
 ghost use Rattle.serde_json.specs.View.{view};
 ghost use Rattle.kit_rules.specs.Federation.{IsOperand};
 ghost use Rattle.kit_rules.specs.Limits.{most_vars};
-ghost use Rattle.kit_file.specs.Agreement.{Gives};
+ghost use Rattle.kit_walk.specs.Agreement.{Gives};
 ghost use Rattle.kit_file.specs.Operands.{operand_text, operand_of};
 
-use crate::fault::{Fault, FaultKind, WalkEnd};
 use crate::names::position_in;
-use crate::places::{are_same, member_at, number_at};
 use kit_rules::{Operand, Var};
+use kit_walk::{Fault, FaultKind, WalkEnd, are_same, member_at, number_at};
 use serde_json::Value;
 use std::alloc::Global;
 

@@ -5,14 +5,13 @@ ghost use Rattle.serde_json.specs.View.{view};
 ghost use Rattle.kit_rules.specs.Limits.{most_buffers, most_federates};
 ghost use Rattle.kit_rules.specs.Federation.{IsStep, IsFederation};
 ghost use Rattle.kit_regions.specs.Lowered.{crowded_federate};
-ghost use Rattle.kit_file.specs.Agreement.{Fails, Gives};
+ghost use Rattle.kit_walk.specs.Agreement.{Fails, Gives};
 ghost use Rattle.kit_file.specs.Names.{itself};
 ghost use Rattle.kit_file.specs.SoFar.{AreNames};
 ghost use Rattle.kit_file.specs.Walk.{plan_in, too_many_rules, lowered_where, with_plan};
 ghost use Rattle.kit_regions.specs.Limits.{IsPlan};
 
 use crate::content::Content;
-use crate::fault::{Fault, FaultKind, WalkEnd};
 use crate::federates::federates_in;
 use crate::known::Known;
 use crate::names::names_of;
@@ -20,6 +19,7 @@ use crate::regions::regions_in;
 use crate::subscribers::{Subscribed, subscribed_groups_in};
 use kit_regions::{RegionEnd, Regioned, lower};
 use kit_rules::{Federation, Name};
+use kit_walk::{Fault, FaultKind, WalkEnd};
 use serde_json::Value;
 use std::alloc::Global;
 

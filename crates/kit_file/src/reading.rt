@@ -5,23 +5,23 @@ ghost use Rattle.serde_json.specs.View.{view};
 ghost use Rattle.kit_rules.specs.Federation.{IsStep, IsFederation};
 ghost use Rattle.kit_rules.specs.Limits.{most_buffers, most_federates};
 ghost use Rattle.kit_regions.specs.Limits.{IsPlan};
-ghost use Rattle.kit_file.specs.Agreement.{Gives};
+ghost use Rattle.kit_walk.specs.Agreement.{Gives};
 ghost use Rattle.kit_file.specs.Names.{itself};
 ghost use Rattle.kit_file.specs.SoFar.{AreNames};
 ghost use Rattle.kit_file.specs.Walk.{content_after, content_of, federation_in, plan_walk, walk};
-ghost use Rattle.kit_file.specs.Answers.{IsAccepted, IsAcceptedPlan, IsFaultAtPath, IsNoJson};
+ghost use Rattle.kit_walk.specs.Answers.{IsNoJson};
+ghost use Rattle.kit_file.specs.Answers.{IsAccepted, IsAcceptedPlan, IsFaultAtPath};
 
 use crate::content::Content;
-use crate::fault::{FileFault, WalkEnd};
 use crate::federate_names::federate_names_in;
 use crate::federates::federates_in;
 use crate::groups::groups_in;
 use crate::known::Known;
 use crate::names::names_of;
-use crate::places::{list_at, number_at, object_here};
 use crate::plans::{plan_in, with_plan};
 use kit_regions::Regioned;
 use kit_rules::{Federation, MOST_BUFFERS, MOST_FEDERATES, MOST_TIME, Name};
+use kit_walk::{FileFault, WalkEnd, json_in, list_at, number_at, object_here};
 use serde_json::Value;
 use std::alloc::Global;
 
@@ -120,6 +120,16 @@ fn walk_in(alloc: Global, value: &Value) -> Result<Content, WalkEnd>
     content_in(alloc, value)
 }
 
+/// The federation that a value says, as the walk of [`read_federation`] finds it.
+pub fn federation_of(alloc: Global, value: &Value) -> Result<Federation, WalkEnd>
+    ensures exact { Gives (λ p. p) result (walk (view value.now)) }
+    ensures sound { IfOk result (λ p. IsFederation p) }
+{
+    let content = walk_in(alloc, value)?;
+    Ok(content.federation)
+}
+
+#[tactic(auto, using(kit_walk::proofs::Told::walk_faults, kit_walk::proofs::Told::json_faults, kit_walk::proofs::Told::no_json))]
 fn read_content(alloc: Global, bytes: &[u8]) -> Result<Content, FileFault>
     ensures accepted { IfOk result (λ c. IsAccepted bytes.now c.federation) }
     ensures sound { IfOk result (λ c. IsFederation c.federation) }
@@ -128,23 +138,10 @@ fn read_content(alloc: Global, bytes: &[u8]) -> Result<Content, FileFault>
     ensures fault { IfErr result (λ f. IsFaultAtPath bytes.now f) }
     ensures not_json { result ≡ Err FileFault.NotJson → IsNoJson bytes.now }
 {
-    let value = match Value::from_slice(alloc, bytes) {
-        Ok(value) => value,
-        Err(error) => {
-            return Err(if error.is_memory() {
-                FileFault::NoMemory
-            } else {
-                FileFault::NotJson
-            });
-        }
-    };
+    let value = json_in(alloc, bytes)?;
     match walk_in(alloc, &value) {
         Ok(content) => Ok(content),
-        Err(WalkEnd::Memory) => Err(FileFault::NoMemory),
-        Err(WalkEnd::Fault(fault)) => Err(match fault.of_file(alloc) {
-            Ok(fault) => fault,
-            Err(_) => FileFault::NoMemory,
-        }),
+        Err(end) => Err(end.of_file(alloc)),
     }
 }
 

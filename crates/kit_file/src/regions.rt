@@ -5,19 +5,18 @@ ghost use Rattle.std.specs.Prelude.{IfOk, OnOk};
 ghost use Rattle.serde_json.specs.View.{view};
 ghost use Rattle.kit_rules.specs.Limits.{most_groups};
 ghost use Rattle.kit_regions.specs.Limits.{IsRange, IsUpdate, AreUpdates};
-ghost use Rattle.kit_file.specs.Agreement.{Gives};
+ghost use Rattle.kit_walk.specs.Agreement.{Gives};
 ghost use Rattle.kit_file.specs.Names.{update_name};
-ghost use Rattle.kit_file.specs.Paths.{item_path};
-ghost use Rattle.kit_file.specs.Reading.{within};
+ghost use Rattle.kit_walk.specs.Paths.{item_path};
+ghost use Rattle.kit_walk.specs.Reading.{within};
 ghost use Rattle.kit_file.specs.Regions.{range_of, region_of, region_step, regions_of};
 ghost use Rattle.kit_file.specs.SoFar.{IsNewName, AreUpdatesSoFar};
 
-use crate::fault::WalkEnd;
 use crate::names::{new_name_at, reference_at};
-use crate::places::{number_at, object_here, optional_list_at};
 use kit_base::Items;
 use kit_regions::{MOST_UPDATES, Range, Update};
 use kit_rules::Name;
+use kit_walk::{WalkEnd, number_at, object_here, optional_list_at};
 use serde_json::Value;
 use std::alloc::Global;
 
@@ -57,7 +56,7 @@ fn region_in(
     })
 }
 
-#[tactic(auto, using(crate::proofs::Ends::fails_before, crate::proofs::Pushes::one_more_update), unfolding(crate::specs::Regions::region_step))]
+#[tactic(auto, using(kit_walk::proofs::Ends::fails_before, crate::proofs::Pushes::one_more_update), unfolding(crate::specs::Regions::region_step))]
 fn push_region(
     alloc: Global,
     groups: &[Name],

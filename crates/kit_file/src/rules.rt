@@ -7,20 +7,21 @@ ghost use Rattle.serde_json.specs.Find.{get};
 ghost use Rattle.kit_rules.specs.Federation.{IsAction, IsCond, IsTrigger};
 ghost use Rattle.kit_rules.specs.Limits.{most_conds, most_groups, most_rules, most_vars};
 ghost use Rattle.kit_regions.specs.Limits.{IsPlannedRule};
-ghost use Rattle.kit_file.specs.Agreement.{Gives};
+ghost use Rattle.kit_walk.specs.Agreement.{Gives};
 ghost use Rattle.kit_file.specs.SoFar.{AreKnown};
-ghost use Rattle.kit_file.specs.Reading.{within};
+ghost use Rattle.kit_walk.specs.Reading.{within};
 ghost use Rattle.kit_file.specs.Rules.{named_comparison, comparison_of, cond_of, cond_step};
 ghost use Rattle.kit_file.specs.Rules.{conds_of, got_of, trigger_of, rule_of, rule_step, rules_of};
 
 use crate::actions::actions_in;
-use crate::fault::{Fault, FaultKind, WalkEnd};
 use crate::known::Known;
 use crate::names::reference_at;
 use crate::operands::operand_at;
-use crate::places::{are_same, member_at, object_here, optional_list_at, text_at};
 use kit_base::Items;
 use kit_rules::{Compare, Cond, MOST_CONDS, MOST_RULES, Name, Rule, Trigger, Var};
+use kit_walk::{
+    Fault, FaultKind, WalkEnd, are_same, member_at, object_here, optional_list_at, text_at,
+};
 use serde_json::Value;
 use std::alloc::Global;
 
@@ -73,7 +74,7 @@ fn cond_in(alloc: Global, vars: &[Var], value: &Value) -> Result<Cond, WalkEnd>
     Ok(Cond { left, test, right })
 }
 
-#[tactic(auto, using(crate::proofs::Ends::fails_before, crate::proofs::Pushes::all_and_one), unfolding(crate::specs::Rules::cond_step))]
+#[tactic(auto, using(kit_walk::proofs::Ends::fails_before, crate::proofs::Pushes::all_and_one), unfolding(crate::specs::Rules::cond_step))]
 fn push_cond(
     alloc: Global,
     vars: &[Var],
@@ -122,7 +123,7 @@ fn got_in(alloc: Global, groups: &[Name], value: &Value) -> Result<Trigger, Walk
     Ok(Trigger::Got { group })
 }
 
-#[tactic(auto, using(crate::proofs::Ends::fails_within), unfolding(crate::specs::Rules::trigger_of))]
+#[tactic(auto, using(kit_walk::proofs::Ends::fails_within), unfolding(crate::specs::Rules::trigger_of))]
 fn trigger_at(alloc: Global, groups: &[Name], value: &Value) -> Result<Trigger, WalkEnd>
     requires { length groups.now ≤ most_groups }
     ensures exact { Gives (λ t. t) result (trigger_of groups.now (view value.now)) }
@@ -165,7 +166,7 @@ fn rule_in(
     Ok(Rule { on, conds, actions })
 }
 
-#[tactic(auto, using(crate::proofs::Ends::fails_before, crate::proofs::Pushes::all_and_one), unfolding(crate::specs::Rules::rule_step))]
+#[tactic(auto, using(kit_walk::proofs::Ends::fails_before, crate::proofs::Pushes::all_and_one), unfolding(crate::specs::Rules::rule_step))]
 fn push_rule(
     alloc: Global,
     known: &Known,

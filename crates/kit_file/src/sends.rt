@@ -2,7 +2,7 @@
 
 ghost use Rattle.std.specs.Prelude.{◌≡◌, ◌<◌, ◌≤◌, codes, length, IfOk, IfSome};
 ghost use Rattle.kit_rules.specs.Limits.{most_time, most_vars};
-ghost use Rattle.kit_file.specs.Agreement.{Gives};
+ghost use Rattle.kit_walk.specs.Agreement.{Gives};
 ghost use Rattle.kit_file.specs.Names.{itself, var_name, reference};
 ghost use Rattle.kit_regions.specs.Limits.{most_updates};
 ghost use Rattle.kit_file.specs.Operands.{operand_of};
@@ -11,12 +11,11 @@ ghost use Rattle.serde_json.specs.View.{view};
 ghost use Rattle.serde_json.specs.Find.{get};
 ghost use Rattle.kit_rules.specs.Federation.{IsAction};
 
-use crate::fault::{Fault, FaultKind, WalkEnd};
 use crate::lookaheads::needed_at;
 use crate::names::reference_at;
 use crate::operands::operand_at;
-use crate::places::number_at;
 use kit_rules::{Action, MOST_TIME, Name, Var};
+use kit_walk::{Fault, FaultKind, WalkEnd, number_at};
 use serde_json::Value;
 use std::alloc::Global;
 

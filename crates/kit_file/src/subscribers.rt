@@ -5,22 +5,21 @@ ghost use Rattle.std.specs.Prelude.{IfOk, OnOk};
 ghost use Rattle.serde_json.specs.View.{view};
 ghost use Rattle.kit_rules.specs.Limits.{most_federates, most_groups};
 ghost use Rattle.kit_regions.specs.Limits.{most_subscriptions};
-ghost use Rattle.kit_file.specs.Agreement.{Gives};
-ghost use Rattle.kit_file.specs.Paths.{item_path};
-ghost use Rattle.kit_file.specs.Reading.{within};
+ghost use Rattle.kit_walk.specs.Agreement.{Gives};
+ghost use Rattle.kit_walk.specs.Paths.{item_path};
+ghost use Rattle.kit_walk.specs.Reading.{within};
 ghost use Rattle.kit_file.specs.SoFar.{AreNames, AreSubscribed, IsSubscriptionTo};
 ghost use Rattle.kit_file.specs.Names.{itself};
 ghost use Rattle.kit_file.specs.Subscribers.{subscription_of, subscription_step};
 ghost use Rattle.kit_file.specs.Subscribers.{subscriptions_of, subscribed_of, subscribed_step};
 ghost use Rattle.kit_file.specs.Subscribers.{subscribed_groups_of};
 
-use crate::fault::WalkEnd;
 use crate::names::{new_name_at, reference_at};
-use crate::places::{list_at, object_here, optional_list_at};
 use crate::regions::range_in;
 use kit_base::Items;
 use kit_regions::{MOST_SUBSCRIPTIONS, Subscription};
 use kit_rules::{MOST_GROUPS, Name};
+use kit_walk::{WalkEnd, list_at, object_here, optional_list_at};
 use serde_json::Value;
 use std::alloc::{AllocError, Global};
 
@@ -64,7 +63,7 @@ fn subscription_in(
     })
 }
 
-#[tactic(auto, using(crate::proofs::Ends::fails_before, crate::proofs::Pushes::all_and_one), unfolding(crate::specs::Subscribers::subscription_step))]
+#[tactic(auto, using(kit_walk::proofs::Ends::fails_before, crate::proofs::Pushes::all_and_one), unfolding(crate::specs::Subscribers::subscription_step))]
 fn push_subscription(
     alloc: Global,
     names: &[Name],
@@ -132,7 +131,7 @@ fn add_group(
     Ok(())
 }
 
-#[tactic(auto, using(crate::proofs::Ends::fails_within), unfolding(crate::specs::Subscribers::subscribed_step))]
+#[tactic(auto, using(kit_walk::proofs::Ends::fails_within), unfolding(crate::specs::Subscribers::subscribed_step))]
 fn push_group(
     alloc: Global,
     names: &[Name],

@@ -2,19 +2,18 @@
 
 ghost use Rattle.std.specs.Prelude.{◌≡◌, ◌+◌, length, IfOk, OnOk, ◌++◌, ◌∷◌, [], codes};
 ghost use Rattle.serde_json.specs.View.{view};
-ghost use Rattle.kit_file.specs.Agreement.{Gives};
-ghost use Rattle.kit_file.specs.Reading.{within};
+ghost use Rattle.kit_walk.specs.Agreement.{Gives};
+ghost use Rattle.kit_walk.specs.Reading.{within};
 ghost use Rattle.kit_file.specs.Variables.{var_of, var_step, vars_of};
 ghost use Rattle.kit_file.specs.SoFar.{AreNames, IsNewName};
 ghost use Rattle.kit_file.specs.Names.{var_name};
-ghost use Rattle.kit_file.specs.Paths.{item_path};
+ghost use Rattle.kit_walk.specs.Paths.{item_path};
 ghost use Rattle.kit_rules.specs.Federation.{AreVars};
 
-use crate::fault::WalkEnd;
 use crate::names::new_name_at;
-use crate::places::{number_at, object_here, optional_list_at};
 use kit_base::Items;
 use kit_rules::{MOST_VARS, Name, Var};
+use kit_walk::{WalkEnd, number_at, object_here, optional_list_at};
 use serde_json::Value;
 use std::alloc::Global;
 
@@ -32,7 +31,7 @@ fn var_in(alloc: Global, done: &[Var], value: &Value) -> Result<Var, WalkEnd>
     })
 }
 
-#[tactic(auto, using(crate::proofs::Ends::fails_before, crate::proofs::Pushes::one_more_name), unfolding(crate::specs::Variables::var_step))]
+#[tactic(auto, using(kit_walk::proofs::Ends::fails_before, crate::proofs::Pushes::one_more_name), unfolding(crate::specs::Variables::var_step))]
 fn push_var(alloc: Global, i: usize, done: &mut Items<Var>, value: &Value) -> Result<(), WalkEnd>
     requires { AreNames var_name done.old }
     ensures exact { Gives (λ _. done.new) result (var_step i done.old (view value.now)) }

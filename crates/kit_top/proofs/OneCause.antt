@@ -6,9 +6,11 @@ use Rattle.kit_io.specs.declared.source.Source.{Ghosts}
 use Rattle.kit_io.specs.Causes.{Took}
 use Rattle.kit_rules.specs.Parts.{Parts}
 use Rattle.kit_rules.specs.Simulation.{spender}
-use Rattle.kit_file.specs.declared.fault.FileFault.{FileFault}
-use Rattle.kit_file.specs.declared.fault.FileFault.TheVariants as file
-use Rattle.kit_file.specs.Answers.{Says, IsAccepted, IsAcceptedPlan, IsFirstFault, IsNoJson, file_fault, path_text}
+use Rattle.kit_walk.specs.declared.fault.FileFault.{FileFault}
+use Rattle.kit_walk.specs.declared.fault.FileFault.TheVariants as file
+use Rattle.kit_walk.specs.Faults.{file_fault, path_text}
+use Rattle.kit_walk.specs.Answers.{Says, IsNoJson}
+use Rattle.kit_file.specs.Answers.{IsAccepted, IsAcceptedPlan, IsFirstFault}
 use Rattle.kit_file.specs.Walk.{plan_walk, walk}
 use Rattle.kit_file.proofs.KeysMean.{others_have_none, plans_mean}
 use Rattle.kit_regions.specs.Lowered.{federation_of}

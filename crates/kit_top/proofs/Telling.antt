@@ -16,9 +16,10 @@ use Rattle.kit_rules.specs.Text.{simulation_text}
 use Rattle.kit_oracle.specs.Ends.{IfSpentAt}
 use Rattle.kit_oracle.specs.declared.end.OracleEnd.{OracleEnd}
 use Rattle.kit_oracle.specs.declared.end.OracleEnd.TheVariants as oracle
-use Rattle.kit_file.specs.declared.fault.FileFault.{FileFault}
-use Rattle.kit_file.specs.declared.fault.FileFault.TheVariants as file
-use Rattle.kit_file.specs.Answers.{IsFaultAtPath, IsNoJson}
+use Rattle.kit_walk.specs.declared.fault.FileFault.{FileFault}
+use Rattle.kit_walk.specs.declared.fault.FileFault.TheVariants as file
+use Rattle.kit_walk.specs.Answers.{IsNoJson}
+use Rattle.kit_file.specs.Answers.{IsFaultAtPath}
 use Rattle.kit_top.specs.Causes.{Told, AcceptedCauses, Causes, EndCauses, EndsWith, OracleEndCauses, FileCauses, FederationCauses, HasText, InputCauses, IsCommand, IsEnded, IsFileRun, IsLeft, IsRun, IsWhole, IsWithin, IsBadFile, IsTheFault, IsThis, IsAnswered, IsAsked, Run, SimulationCauses, spender_of, text_of}
 
 pub told_weaker : (A B : Status → List ℕ → Type 0) (old new : Option (List ℕ)) (s : Status) → ((s : Status) (text : List ℕ) → A s text → B s text) → Told A old new s → Told B old new s

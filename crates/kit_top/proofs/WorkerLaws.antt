@@ -4,7 +4,7 @@ use Rattle.kit_io.specs.declared.source.Source.{Ghosts}
 use Rattle.kit_io.specs.Causes.{Took}
 use Rattle.kit_rules.specs.Parts.{Parts}
 use Rattle.kit_rules.specs.Simulation.{spender}
-use Rattle.kit_file.specs.declared.fault.FileFault.{FileFault}
+use Rattle.kit_walk.specs.declared.fault.FileFault.{FileFault}
 use Rattle.kit_file.specs.Answers.{IsAccepted}
 use Rattle.kit_node.specs.declared.ends.End.{End}
 use Rattle.kit_node.specs.declared.ends.End.TheVariants as ends

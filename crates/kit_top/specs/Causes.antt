@@ -11,9 +11,10 @@ use Rattle.kit_rules.specs.Need.{need_of}
 use Rattle.kit_rules.specs.Limits.{most_time}
 use Rattle.kit_rules.specs.Simulation.{spender}
 use Rattle.kit_rules.specs.Text.{simulation_text, check_text}
-use Rattle.kit_file.specs.declared.fault.FileFault.{FileFault}
-use Rattle.kit_file.specs.declared.fault.FileFault.TheVariants as file
-use Rattle.kit_file.specs.Answers.{IsAccepted, IsAcceptedPlan, IsFirstFault, IsNoJson}
+use Rattle.kit_walk.specs.declared.fault.FileFault.{FileFault}
+use Rattle.kit_walk.specs.declared.fault.FileFault.TheVariants as file
+use Rattle.kit_walk.specs.Answers.{IsNoJson}
+use Rattle.kit_file.specs.Answers.{IsAccepted, IsAcceptedPlan, IsFirstFault}
 use Rattle.kit_regions.specs.Plan.{Plan}
 use Rattle.kit_regions.specs.Text.{regions_text}
 use Rattle.kit_schedule.specs.Schedules.{IsSchedule}

@@ -6,8 +6,8 @@ ghost use Rattle.kit_top.specs.Causes.{IsTheFault, Told, path_text, bad_file_tex
 
 use crate::Status;
 use crate::writing::tell;
-use kit_file::{FaultPath, FileFault};
 use kit_io::Sink;
+use kit_walk::{FaultPath, FileFault};
 use std::alloc::{AllocError, Global};
 
 fn path_line(alloc: Global, kind: &str, path: &FaultPath) -> Result<Vec<u8>, AllocError>

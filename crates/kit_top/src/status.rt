@@ -1,6 +1,6 @@
 ghost use Rattle.std.specs.Prelude.{◌≡◌};
 
-use kit_file::FileFault;
+use kit_walk::FileFault;
 
 /// How a call of the program ended.
 #[derive(Debug, Drop, thiserror::Error)]

@@ -1,9 +1,9 @@
 use Rattle.std.proofs.Common.{◌≡◌, [], map, length}
 use Rattle.serde_json.specs.View.{view}
-use Rattle.kit_file.specs.Reading.{each}
+use Rattle.kit_walk.specs.Reading.{each}
 use Rattle.kit_file.specs.Federates.{federate_step}
 use Rattle.kit_file.specs.SoFar.{AreFederatesSoFar}
-use Rattle.kit_file.proofs.Rest.{rest}
+use Rattle.kit_walk.proofs.Rest.{rest}
 use Rattle.kit_file.proofs.federates.federates_in.Given as goal
 
 abbrev pub invariant-loop-i : goal.invariant-loop-i

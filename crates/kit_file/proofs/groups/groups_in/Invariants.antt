@@ -1,9 +1,9 @@
 use Rattle.std.proofs.Common.{◌≡◌, [], map, length}
 use Rattle.serde_json.specs.View.{view}
-use Rattle.kit_file.specs.Reading.{each}
+use Rattle.kit_walk.specs.Reading.{each}
 use Rattle.kit_file.specs.Groups.{group_step}
 use Rattle.kit_file.specs.SoFar.{AreGroupsSoFar}
-use Rattle.kit_file.proofs.Rest.{rest}
+use Rattle.kit_walk.proofs.Rest.{rest}
 use Rattle.kit_file.proofs.groups.groups_in.Given as goal
 
 abbrev pub invariant-loop-i : goal.invariant-loop-i

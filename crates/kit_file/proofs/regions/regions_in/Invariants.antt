@@ -1,9 +1,9 @@
 use Rattle.std.proofs.Common.{◌≡◌, [], map, length}
 use Rattle.serde_json.specs.View.{view}
-use Rattle.kit_file.specs.Reading.{each}
+use Rattle.kit_walk.specs.Reading.{each}
 use Rattle.kit_file.specs.Regions.{region_step}
 use Rattle.kit_file.specs.SoFar.{AreUpdatesSoFar}
-use Rattle.kit_file.proofs.Rest.{rest}
+use Rattle.kit_walk.proofs.Rest.{rest}
 use Rattle.kit_file.proofs.regions.regions_in.Given as goal
 
 abbrev pub invariant-loop-i : goal.invariant-loop-i

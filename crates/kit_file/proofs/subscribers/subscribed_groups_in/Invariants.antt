@@ -1,9 +1,9 @@
 use Rattle.std.proofs.Common.{◌≡◌, map, length}
 use Rattle.serde_json.specs.View.{view}
-use Rattle.kit_file.specs.Reading.{each}
+use Rattle.kit_walk.specs.Reading.{each}
 use Rattle.kit_file.specs.Subscribers.{subscribed_step, none_subscribed}
 use Rattle.kit_file.specs.SoFar.{AreSubscribed}
-use Rattle.kit_file.proofs.Rest.{rest}
+use Rattle.kit_walk.proofs.Rest.{rest}
 use Rattle.kit_file.proofs.subscribers.subscribed_groups_in.Given as goal
 
 abbrev pub invariant-loop-i : goal.invariant-loop-i

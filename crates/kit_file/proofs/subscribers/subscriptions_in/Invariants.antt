@@ -1,10 +1,10 @@
 use Rattle.std.proofs.Common.{◌≡◌, [], map, length}
 use Rattle.std.specs.List.{All}
 use Rattle.serde_json.specs.View.{view}
-use Rattle.kit_file.specs.Reading.{each}
+use Rattle.kit_walk.specs.Reading.{each}
 use Rattle.kit_file.specs.Subscribers.{subscription_step}
 use Rattle.kit_file.specs.SoFar.{IsSubscriptionTo}
-use Rattle.kit_file.proofs.Rest.{rest}
+use Rattle.kit_walk.proofs.Rest.{rest}
 use Rattle.kit_file.proofs.subscribers.subscriptions_in.Given as goal
 
 abbrev pub invariant-loop-i : goal.invariant-loop-i

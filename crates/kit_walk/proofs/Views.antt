@@ -4,7 +4,7 @@ use Rattle.std.proofs.lemmas.List.{length-map}
 use Rattle.serde_json.specs.Data.{Data}
 use Rattle.serde_json.specs.View.{view, items_of, items_view}
 use Rattle.serde_json.specs.declared.value.Value.{Value}
-use Rattle.kit_file.specs.Places.{data_of}
+use Rattle.kit_walk.specs.Places.{data_of}
 
 -- an array of data, as a list again
 data_of-items_of : (ds : List Data) → data_of (items_of ds) ≡ ds

@@ -1,9 +1,9 @@
 //! What is wrong with a file, and where.
 
-ghost use Rattle.std.specs.Prelude.{◌≡◌, ◌++◌, [], IfOk, codes};
+ghost use Rattle.std.specs.Prelude.{◌≡◌, ◌≢◌, ◌++◌, [], IfOk, codes};
 ghost use Rattle.std.specs.Fmt.{decimal};
-ghost use Rattle.kit_file.specs.Paths.{key_path, item_path};
-ghost use Rattle.kit_file.specs.declared.fault.WalkEnd.TheVariants.{Memory};
+ghost use Rattle.kit_walk.specs.Paths.{key_path, item_path};
+ghost use Rattle.kit_walk.specs.declared.fault.WalkEnd.TheVariants.{Memory};
 
 use kit_base::push_decimal;
 use std::alloc::{AllocError, AllocFailed, Global};
@@ -75,9 +75,9 @@ pub enum FileFault {
     NoMemory,
 }
 
-/// What is wrong at a place.
+/// What is wrong at a place: the faults of a file that have a path, without it.
 #[derive(Clone, Copy, Debug, PartialEq, Eq)]
-pub(crate) enum FaultKind {
+pub enum FaultKind {
     Missing,
     WrongKind,
     OutOfRange,
@@ -90,16 +90,17 @@ pub(crate) enum FaultKind {
 /// A fault of the walk. Its path starts at the value that was walked, each key with a point
 /// before it, and is empty where the value itself is at fault.
 #[derive(Debug, Drop)]
-pub(crate) struct Fault {
+pub struct Fault {
     pub kind: FaultKind,
     pub path: FaultPath,
 }
 
 /// Why a walk ended early.
 #[derive(Debug, Drop)]
-pub(crate) enum WalkEnd {
+pub enum WalkEnd {
     /// Memory ran out.
     Memory,
+    /// The first fault.
     Fault(Fault),
 }
 
@@ -120,10 +121,25 @@ impl<T: Drop> From<AllocFailed<T>> for WalkEnd {
 }
 
 impl WalkEnd {
-    ghost use Rattle.kit_file.specs.Agreement.{EndsWithin};
+    ghost use Rattle.kit_walk.specs.Agreement.{EndsWithin};
+    ghost use Rattle.kit_walk.specs.Answers.{EndsFile};
+
+    /// The fault of the file whose root was walked.
+    pub fn of_file(self, alloc: Global) -> FileFault
+        ensures ends { EndsFile self result }
+        ensures json { result ≢ FileFault.NotJson }
+    {
+        let WalkEnd::Fault(fault) = self else {
+            return FileFault::NoMemory;
+        };
+        match fault.of_file(alloc) {
+            Ok(fault) => fault,
+            Err(_) => FileFault::NoMemory,
+        }
+    }
 
     /// The end, with its fault as seen from where a key holds the value that was walked.
-    pub(crate) fn under_key(self, alloc: Global, key: &str) -> WalkEnd
+    pub fn under_key(self, alloc: Global, key: &str) -> WalkEnd
         ensures { EndsWithin (key_path key.now) self result }
     {
         let WalkEnd::Fault(fault) = self else {
@@ -137,7 +153,7 @@ impl WalkEnd {
 
     /// The end, with its fault as seen from where the list under a key holds the value that was
     /// walked.
-    pub(crate) fn under_item(self, alloc: Global, key: &str, i: usize) -> WalkEnd
+    pub fn under_item(self, alloc: Global, key: &str, i: usize) -> WalkEnd
         ensures { EndsWithin (item_path key.now i) self result }
     {
         let WalkEnd::Fault(fault) = self else {
@@ -151,10 +167,10 @@ impl WalkEnd {
 }
 
 impl Fault {
-    ghost use Rattle.kit_file.specs.Answers.{path_text, file_fault};
+    ghost use Rattle.kit_walk.specs.Faults.{path_text, file_fault};
 
     /// The fault of this kind at the value itself.
-    pub(crate) fn here(alloc: Global, kind: FaultKind) -> Fault
+    pub fn here(alloc: Global, kind: FaultKind) -> Fault
         ensures { result ≡ record { kind = kind; path = [] } }
     {
         Fault {
@@ -166,7 +182,7 @@ impl Fault {
     }
 
     /// The fault of this kind at a key.
-    pub(crate) fn at_key(alloc: Global, kind: FaultKind, key: &str) -> Result<Fault, AllocError>
+    pub fn at_key(alloc: Global, kind: FaultKind, key: &str) -> Result<Fault, AllocError>
         ensures { IfOk result (λ f. f ≡ record { kind = kind; path = key_path key.now }) }
     {
         let mut bytes = Vec::from_slice(alloc, b".")?;
@@ -209,7 +225,7 @@ impl Fault {
     }
 
     /// The fault of the file, where the root was walked.
-    pub(crate) fn of_file(self, alloc: Global) -> Result<FileFault, AllocError>
+    fn of_file(self, alloc: Global) -> Result<FileFault, AllocError>
         ensures { IfOk result (λ f. f ≡ file_fault self.kind (path_text self.path)) }
     {
         let bytes = match self.path.bytes.as_slice() {

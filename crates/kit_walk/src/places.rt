@@ -4,16 +4,17 @@ ghost use Rattle.std.specs.Prelude.{◌≡◌, ◌≤◌, map, length, IfOk};
 ghost use Rattle.serde_json.specs.View.{view};
 ghost use Rattle.std.specs.List.{list_any};
 ghost use Rattle.serde_json.specs.Find.{get};
-ghost use Rattle.kit_file.specs.Agreement.{Gives};
-ghost use Rattle.kit_file.specs.Places.{object, member, number, text, list_of, list, optional_list};
-ghost use Rattle.kit_file.specs.Places.{is_same};
+ghost use Rattle.kit_walk.specs.Agreement.{Gives};
+ghost use Rattle.kit_walk.specs.Places.{object, member, number, text, list_of, list, optional_list};
+ghost use Rattle.kit_walk.specs.Places.{is_same};
 
 use crate::fault::{Fault, FaultKind, WalkEnd};
 use serde_json::Value;
 use std::alloc::Global;
 
+/// Tests that a value is an object. A value of another kind is at fault itself: the path is empty.
 #[tactic(auto, unfolding(crate::specs::Places::object))]
-pub(crate) fn object_here(alloc: Global, value: &Value) -> Result<(), WalkEnd>
+pub fn object_here(alloc: Global, value: &Value) -> Result<(), WalkEnd>
     ensures { Gives (λ _. tt) result (object (view value.now)) }
 {
     if value.is_object() {
@@ -23,12 +24,9 @@ pub(crate) fn object_here(alloc: Global, value: &Value) -> Result<(), WalkEnd>
     }
 }
 
+/// The value at a key of an object that has to be there.
 #[tactic(auto, unfolding(crate::specs::Places::member))]
-pub(crate) fn member_at<'v>(
-    alloc: Global,
-    value: &'v Value,
-    key: &str,
-) -> Result<&'v Value, WalkEnd>
+pub fn member_at<'v>(alloc: Global, value: &'v Value, key: &str) -> Result<&'v Value, WalkEnd>
     ensures { Gives (λ v. view v.now) result (member key.now (view value.now)) }
 {
     match value.get(key) {
@@ -37,8 +35,10 @@ pub(crate) fn member_at<'v>(
     }
 }
 
+/// The whole number at a key, from `low` to `high`. A number with a fraction, an exponent or a
+/// sign is of the wrong kind, and so is one of more than 64 bits.
 #[tactic(auto, unfolding(crate::specs::Places::number))]
-pub(crate) fn number_at(
+pub fn number_at(
     alloc: Global,
     value: &Value,
     key: &str,
@@ -58,8 +58,9 @@ pub(crate) fn number_at(
     Ok(n)
 }
 
+/// The text at a key.
 #[tactic(auto, unfolding(crate::specs::Places::text))]
-pub(crate) fn text_at<'v>(alloc: Global, value: &'v Value, key: &str) -> Result<&'v str, WalkEnd>
+pub fn text_at<'v>(alloc: Global, value: &'v Value, key: &str) -> Result<&'v str, WalkEnd>
     ensures { Gives (λ s. s.now) result (text key.now (view value.now)) }
 {
     let found = member_at(alloc, value, key)?;
@@ -69,14 +70,17 @@ pub(crate) fn text_at<'v>(alloc: Global, value: &'v Value, key: &str) -> Result<
     }
 }
 
-pub(crate) fn are_same(a: &[u8], b: &[u8]) -> bool
+/// Whether two texts have the same bytes.
+pub fn are_same(a: &[u8], b: &[u8]) -> bool
     ensures { result ≡ is_same a.now b.now }
 {
     a == b
 }
 
+/// The members of a list of `low` to `high` members. The key is the one that it stands at, and
+/// only says where a fault is.
 #[tactic(auto, unfolding(crate::specs::Places::list_of), using(crate::proofs::Views::data_of_view, crate::proofs::Views::length_of_view))]
-pub(crate) fn list_in<'v>(
+pub fn list_in<'v>(
     alloc: Global,
     found: &'v Value,
     key: &str,
@@ -95,8 +99,9 @@ pub(crate) fn list_in<'v>(
     Ok(items.as_slice())
 }
 
+/// The members of the list at a key, `low` to `high` of them.
 #[tactic(auto, unfolding(crate::specs::Places::list))]
-pub(crate) fn list_at<'v>(
+pub fn list_at<'v>(
     alloc: Global,
     value: &'v Value,
     key: &str,
@@ -110,7 +115,8 @@ pub(crate) fn list_at<'v>(
     list_in(alloc, found, key, low, high)
 }
 
-pub(crate) fn optional_list_at<'v>(
+/// The members of the list at a key, `high` at most: none where the key is absent.
+pub fn optional_list_at<'v>(
     alloc: Global,
     value: &'v Value,
     key: &str,

@@ -1,8 +1,8 @@
 -- What a function returned is what reading gives.
 use Rattle.std.specs.Prelude.{◌≡◌, ℕ, List, ◌++◌, Result, Ok, Err}
-use Rattle.kit_file.specs.declared.fault.Fault.{Fault}
-use Rattle.kit_file.specs.declared.fault.WalkEnd.{WalkEnd}
-use Rattle.kit_file.specs.declared.fault.WalkEnd.TheVariants as walk_end
+use Rattle.kit_walk.specs.declared.fault.Fault.{Fault}
+use Rattle.kit_walk.specs.declared.fault.WalkEnd.{WalkEnd}
+use Rattle.kit_walk.specs.declared.fault.WalkEnd.TheVariants as walk_end
 
 -- it ended for want of memory, or by the fault that reading gives
 abbrev pub Fails : {Y : Type 0} → WalkEnd → Result Y Fault → Type 0

@@ -1,8 +1,12 @@
 -- Reading a file place by place: each step gives a value, or the first fault and its path.
 use Rattle.std.specs.Prelude.{ℕ, suc, List, [], ◌∷◌, ◌++◌, Bool, true, false, Option, Some, None, Result, Ok, Err}
 use Rattle.serde_json.specs.Data.{Data}
-use Rattle.kit_file.specs.declared.fault.FaultKind.{FaultKind}
-use Rattle.kit_file.specs.declared.fault.Fault.{Fault}
+use Rattle.kit_walk.specs.declared.fault.FaultKind.{FaultKind}
+use Rattle.kit_walk.specs.declared.fault.Fault.{Fault}
+
+-- what reading a place gives: a value, or the first fault
+abbrev pub Answer : Type 0 → Type 0
+Answer A = Result A Fault
 
 -- one step after another, up to the first fault
 infixl 10 ◌>>=◌

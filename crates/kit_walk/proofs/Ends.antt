@@ -1,10 +1,10 @@
 -- A walk that ended, as seen from further out.
 use Rattle.std.proofs.Common.{ℕ, List, Result, refl}
-use Rattle.kit_file.specs.declared.fault.Fault.{Fault}
-use Rattle.kit_file.specs.declared.fault.WalkEnd.{WalkEnd}
-use Rattle.kit_file.specs.declared.fault.WalkEnd.TheVariants as walk_end
-use Rattle.kit_file.specs.Reading.{◌>>=◌, within}
-use Rattle.kit_file.specs.Agreement.{Fails, EndsWithin}
+use Rattle.kit_walk.specs.declared.fault.Fault.{Fault}
+use Rattle.kit_walk.specs.declared.fault.WalkEnd.{WalkEnd}
+use Rattle.kit_walk.specs.declared.fault.WalkEnd.TheVariants as walk_end
+use Rattle.kit_walk.specs.Reading.{◌>>=◌, within}
+use Rattle.kit_walk.specs.Agreement.{Fails, EndsWithin}
 
 -- it fails there by the same fault
 pub fails_within : {A : Type 0} (front : List ℕ) (read : Result A Fault) (old new : WalkEnd) → Fails old read → EndsWithin front old new → Fails new (within front read)

@@ -1,0 +1,4 @@
+pub mod Views
+pub mod Rest
+pub mod Ends
+pub mod Told
