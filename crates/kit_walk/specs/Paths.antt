@@ -9,3 +9,7 @@ key_path key = codes "." ++ key
 -- one member of the list under a key further in
 abbrev pub item_path : List ℕ → ℕ → List ℕ
 item_path key i = codes "." ++ key ++ codes "[" ++ decimal i ++ codes "]"
+
+-- one member of the list that the value itself is
+abbrev pub index_path : ℕ → List ℕ
+index_path i = codes "[" ++ decimal i ++ codes "]"

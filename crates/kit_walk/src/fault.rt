@@ -1,8 +1,8 @@
 //! What is wrong with a file, and where.
 
-ghost use Rattle.std.specs.Prelude.{◌≡◌, ◌≢◌, ◌++◌, [], IfOk, codes};
+ghost use Rattle.std.specs.Prelude.{◌≡◌, ◌≢◌, ◌++◌, [], IfOk, OnOk, codes};
 ghost use Rattle.std.specs.Fmt.{decimal};
-ghost use Rattle.kit_walk.specs.Paths.{key_path, item_path};
+ghost use Rattle.kit_walk.specs.Paths.{key_path, item_path, index_path};
 ghost use Rattle.kit_walk.specs.declared.fault.WalkEnd.TheVariants.{Memory};
 
 use kit_base::push_decimal;
@@ -120,9 +120,32 @@ impl<T: Drop> From<AllocFailed<T>> for WalkEnd {
     }
 }
 
+/// The place of a member in its list, between brackets.
+fn push_index(bytes: &mut Vec<u8>, i: usize) -> Result<(), AllocError>
+    ensures { OnOk result (bytes.new.items ≡ bytes.old.items ++ index_path i) }
+{
+    bytes.extend_from_slice(b"[")?;
+    push_decimal(bytes, i as u64)?;
+    bytes.extend_from_slice(b"]")
+}
+
 impl WalkEnd {
     ghost use Rattle.kit_walk.specs.Agreement.{EndsWithin};
     ghost use Rattle.kit_walk.specs.Answers.{EndsFile};
+
+    /// The end, with its fault as seen from where the list that the value itself is holds what was
+    /// walked.
+    pub fn under_index(self, alloc: Global, i: usize) -> WalkEnd
+        ensures { EndsWithin (index_path i) self result }
+    {
+        let WalkEnd::Fault(fault) = self else {
+            return WalkEnd::Memory;
+        };
+        match fault.under_index(alloc, i) {
+            Ok(fault) => WalkEnd::Fault(fault),
+            Err(_) => WalkEnd::Memory,
+        }
+    }
 
     /// The fault of the file whose root was walked.
     pub fn of_file(self, alloc: Global) -> FileFault
@@ -214,9 +237,21 @@ impl Fault {
     {
         let mut bytes = Vec::from_slice(alloc, b".")?;
         bytes.extend_from_slice(key.as_bytes())?;
-        bytes.extend_from_slice(b"[")?;
-        push_decimal(&mut bytes, i as u64)?;
-        bytes.extend_from_slice(b"]")?;
+        push_index(&mut bytes, i)?;
+        bytes.extend_from_slice(&self.path.bytes)?;
+        Ok(Fault {
+            kind: self.kind,
+            path: FaultPath { bytes },
+        })
+    }
+
+    /// The fault, as seen from where the list that the value itself is holds what was walked.
+    fn under_index(self, alloc: Global, i: usize) -> Result<Fault, AllocError>
+        ensures { IfOk result (λ f. f ≡
+            record { kind = self.kind; path = index_path i ++ self.path }) }
+    {
+        let mut bytes = Vec::new(alloc);
+        push_index(&mut bytes, i)?;
         bytes.extend_from_slice(&self.path.bytes)?;
         Ok(Fault {
             kind: self.kind,
