@@ -1,0 +1,11 @@
+pub mod Answered
+pub mod Bits
+pub mod Guards
+pub mod LastOnes
+pub mod PendingSteps
+pub mod Numbers
+pub mod Own
+pub mod Pending
+pub mod Asking
+pub mod Standings
+pub mod Cuts

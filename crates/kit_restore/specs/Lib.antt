@@ -1,0 +1,4 @@
+pub mod CutWalk
+pub mod Saved
+pub mod Laws
+pub mod Noted
