@@ -14,7 +14,7 @@ use Rattle.kit_runner.specs.Locks.{IsLocked, account_in}
 use Rattle.kit_runner.specs.Runs.{IsRan, IsRun, LbtsAccount, most_rounds}
 use Rattle.kit_top.specs.declared.ended.Ended.{Ended}
 use Rattle.kit_top.specs.declared.status.Status.{Status}
-use Rattle.kit_top.specs.declared.status.Status.TheVariants.{Done, Usage, ReadFault, TooLong, BadFile, Unfinished, NoBuffer, SendsSpent, RoundsSpent, WriteFault, NoMemory}
+use Rattle.kit_top.specs.declared.status.Status.TheVariants.{Done, Usage, ReadFault, TooLong, BadFile, Unfinished, NoBuffer, SendsSpent, RoundsSpent, WriteFault, NoMemory, CutTooLong}
 use Rattle.kit_top.specs.declared.worker_command.WorkerCommand.{WorkerCommand}
 use Rattle.kit_top.specs.declared.worker_command.WorkerCommand.TheVariants as by
 use Rattle.kit_top.specs.Causes.{IsLeft, Run, Told}
@@ -157,6 +157,7 @@ caused g command from to old new run (BadFile x) is h = absurd is
 caused g command from to old new run (Unfinished i) is h = absurd is
 caused g command from to old new run WriteFault is h = absurd is
 caused g command from to old new run NoMemory is h = absurd is
+caused g command from to old new run CutTooLong is h = absurd is
 
 both_left : (P : Option LbtsFloor → Option LbtsAccount → Type 0) (f f' : Option LbtsFloor) (a a' : Option LbtsAccount) → f ≡ f' → a ≡ a' → P f' a' → P f a
 both_left P f f' a a' e d h =
@@ -208,3 +209,4 @@ module _ {S : Type 0} (g : Ghosts S) (command : WorkerCommand) (from to : S) (ol
       by_cause (RoundsSpent i) text c = inl (of h.run h.left c.0 (RoundsSpent i) text c.2)
       by_cause WriteFault text c = inl (of h.run h.left c.0 WriteFault text c.2)
       by_cause NoMemory text c = inl (of h.run h.left c.0 NoMemory text c.2)
+      by_cause CutTooLong text c = inl (of h.run h.left c.0 CutTooLong text c.2)

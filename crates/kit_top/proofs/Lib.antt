@@ -9,3 +9,5 @@ pub mod Kept
 pub mod Headlines
 pub mod WorkerLaws
 pub mod RegionLaws
+pub mod Saved
+pub mod SavingLaws

@@ -13,7 +13,7 @@ use Rattle.kit_replay.specs.Replays.{LbtsFloor}
 use Rattle.kit_runner.specs.Locks.{IsLocked}
 use Rattle.kit_runner.specs.Runs.{IsRan, IsRun, LbtsAccount}
 use Rattle.kit_top.specs.declared.status.Status.{Status}
-use Rattle.kit_top.specs.declared.status.Status.TheVariants.{Done, Usage, ReadFault, TooLong, BadFile, Unfinished, NoBuffer, SendsSpent, RoundsSpent, WriteFault, NoMemory}
+use Rattle.kit_top.specs.declared.status.Status.TheVariants.{Done, Usage, ReadFault, TooLong, BadFile, Unfinished, NoBuffer, SendsSpent, RoundsSpent, WriteFault, NoMemory, CutTooLong}
 use Rattle.kit_top.specs.declared.worker_command.WorkerCommand.{WorkerCommand}
 use Rattle.kit_top.specs.declared.worker_command.WorkerCommand.TheVariants as by
 use Rattle.kit_top.specs.Causes.{IsBadFile, IsInput, IsWhole, Run, bad_file_text, end_of, most_bytes}
@@ -74,6 +74,7 @@ module _ {S : Type 0} (g : Ghosts S) where
   cases command old new run (RoundsSpent i) a other h = inl (record { federation = h.0; its = h.1; cause = h.2 })
   cases command old new run WriteFault a other h = inl (record { federation = h.0; its = h.1; cause = h.2 })
   cases command old new run NoMemory a other h = inl (record { federation = h.0; its = h.1; cause = h.2 })
+  cases command old new run CutTooLong a other h = inl (record { federation = h.0; its = h.1; cause = h.2 })
 
   -- a command that reads its input runs the federation of that
   reads_input : (command : WorkerCommand) (old new : S) (p : Parts) → ReadsInput command → IsFederationFor g command old new p → IsInput g old new p

@@ -10,7 +10,7 @@ use Rattle.kit_replay.specs.Replays.{LbtsFloor}
 use Rattle.kit_runner.specs.Locks.{IsLocked}
 use Rattle.kit_runner.specs.Runs.{IsRan, IsRun, LbtsAccount, Seat}
 use Rattle.kit_top.specs.declared.status.Status.{Status}
-use Rattle.kit_top.specs.declared.status.Status.TheVariants.{Done, Usage, ReadFault, TooLong, BadFile, Unfinished, NoBuffer, SendsSpent, RoundsSpent, WriteFault, NoMemory}
+use Rattle.kit_top.specs.declared.status.Status.TheVariants.{Done, Usage, ReadFault, TooLong, BadFile, Unfinished, NoBuffer, SendsSpent, RoundsSpent, WriteFault, NoMemory, CutTooLong}
 use Rattle.kit_top.specs.declared.worker_command.WorkerCommand.{WorkerCommand}
 use Rattle.kit_top.specs.declared.worker_command.WorkerCommand.TheVariants as by
 use Rattle.kit_top.specs.Causes.{InputCauses, IsNamed, Run}
@@ -32,6 +32,7 @@ by_input g command old new run reads (SendsSpent i) text h = absurd h
 by_input g command old new run reads (RoundsSpent i) text h = absurd h
 by_input g command old new run reads WriteFault text h = absurd h
 by_input g command old new run reads NoMemory text h = absurd h
+by_input g command old new run reads CutTooLong text h = absurd h
 
 -- the statuses that a run may cause
 end_status : (command : WorkerCommand) (p : Parts) (end : End) (s : Status) (text : List ℕ) → WorkerEndCauses command p end s text → IsOfRun s
@@ -59,6 +60,7 @@ by_run g command old new p run its (SendsSpent i) text h = (p, its, h)
 by_run g command old new p run its (RoundsSpent i) text h = (p, its, h)
 by_run g command old new p run its WriteFault text h = (p, its, h)
 by_run g command old new p run its NoMemory text h = (p, its, h)
+by_run g command old new p run its CutTooLong text h = (p, its, h)
 
 -- WHAT AN END IS TOLD BY is there
 pub named : (p : Parts) (end : End) (reports : List NodeReport) (a : LbtsAccount) (A : Seat → Type 0) (i : ℕ) → IsRun p end reports a → HasPlace A a.places i → i < length p.federates

@@ -4,7 +4,10 @@ use Rattle.std.specs.Io.KnownBytes.{Appends}
 use Rattle.kit_io.specs.declared.source.Source.{Ghosts}
 use Rattle.kit_io.specs.Causes.{Rose, Took, TookAtMost}
 use Rattle.kit_io.specs.Reading.{ShowsEnd}
+use Rattle.serde_json.specs.Data.{Data}
+use Rattle.kit_cut.specs.declared.cut.Cut.{Cut}
 use Rattle.kit_cut.specs.Cuts.{spender_by}
+use Rattle.kit_cut.specs.Resuming.{resumed_spender}
 use Rattle.kit_cut.specs.Upto.{upto_text}
 use Rattle.kit_rules.specs.Parts.{Parts, federate_at}
 use Rattle.kit_rules.specs.Need.{need_of}
@@ -13,8 +16,12 @@ use Rattle.kit_rules.specs.Simulation.{spender}
 use Rattle.kit_rules.specs.Text.{simulation_text, check_text}
 use Rattle.kit_walk.specs.declared.fault.FileFault.{FileFault}
 use Rattle.kit_walk.specs.declared.fault.FileFault.TheVariants as file
-use Rattle.kit_walk.specs.Answers.{IsNoJson}
-use Rattle.kit_file.specs.Answers.{IsAccepted, IsAcceptedPlan, IsFirstFault}
+use Rattle.kit_walk.specs.Reading.{Answer}
+use Rattle.kit_walk.specs.Answers.{IsNoJson, IsFirstFaultOf}
+use Rattle.kit_file.specs.Walk.{walk}
+use Rattle.kit_file.specs.Answers.{IsAccepted, IsAcceptedPlan}
+use Rattle.kit_restore.specs.Saved.{saved_walk, IsSaved}
+use Rattle.kit_save.specs.Text.{most_saved}
 use Rattle.kit_regions.specs.Plan.{Plan}
 use Rattle.kit_regions.specs.Text.{regions_text}
 use Rattle.kit_schedule.specs.Schedules.{IsSchedule}
@@ -27,25 +34,28 @@ use Rattle.kit_replay.specs.Replays.{IsReplayed, LbtsFloor}
 use Rattle.kit_replay.specs.Reports.{AreWholeParts}
 use Rattle.kit_runner.specs.Runs.{LbtsAccount}
 use Rattle.kit_top.specs.declared.command.Command.{Command}
-use Rattle.kit_top.specs.declared.command.Command.TheVariants.{OnFederation, Regions}
+use Rattle.kit_top.specs.declared.command.Command.TheVariants.{OnFederation, Regions, Resume}
 use Rattle.kit_top.specs.declared.command.FederationCommand.{FederationCommand}
-use Rattle.kit_top.specs.declared.command.FederationCommand.TheVariants.{Oracle, Check, Replay, Upto}
+use Rattle.kit_top.specs.declared.command.FederationCommand.TheVariants.{Oracle, Check, Replay, Upto, Save}
 use Rattle.kit_top.specs.declared.ended.Ended.{Ended}
 use Rattle.kit_top.specs.declared.status.Status.{Status}
-use Rattle.kit_top.specs.declared.status.Status.TheVariants.{Done, Usage, ReadFault, TooLong, BadFile, Unfinished, NoBuffer, SendsSpent, RoundsSpent, WriteFault, NoMemory}
+use Rattle.kit_top.specs.declared.status.Status.TheVariants.{Done, Usage, ReadFault, TooLong, BadFile, Unfinished, NoBuffer, SendsSpent, RoundsSpent, WriteFault, NoMemory, CutTooLong}
+use Rattle.kit_top.specs.Saving.{save_text, resumed_text, IsSavable, too_long_text}
 
--- the words are those of a command on a federation: its one word, or `replay` and the words of its schedule, or `upto` and a time in
--- decimal digits without a leading 0
+-- the words are those of a command on a federation: its one word, or `replay` and the words of its schedule, or `upto` or `save` and a
+-- time in decimal digits without a leading 0
 abbrev pub IsFederationCommand : List (List ℕ) → FederationCommand → Type 0
 IsFederationCommand words Oracle = words ≡ codes "oracle" ∷ []
 IsFederationCommand words Check = words ≡ codes "check" ∷ []
 IsFederationCommand words (Upto time) = (time ≤ most_time) × (words ≡ codes "upto" ∷ decimal time ∷ [])
+IsFederationCommand words (Save time) = (time ≤ most_time) × (words ≡ codes "save" ∷ decimal time ∷ [])
 IsFederationCommand words (Replay schedule) = (rest : List (List ℕ)) × (words ≡ codes "replay" ∷ rest) × IsSchedule rest schedule
 
 -- the words are those of a command
 abbrev pub IsCommand : List (List ℕ) → Command → Type 0
 IsCommand words (OnFederation command) = IsFederationCommand words command
 IsCommand words Regions = words ≡ codes "regions" ∷ []
+IsCommand words Resume = words ≡ codes "resume" ∷ []
 
 -- they are those of `replay`
 abbrev pub IsReplayCommand : List (List ℕ) → Type 0
@@ -55,17 +65,19 @@ IsReplayCommand words = (schedule : List ℕ) × IsFederationCommand words (Repl
 abbrev pub IsNoCommand : List (List ℕ) → Type 0
 IsNoCommand words = (command : Command) → IsCommand words command → ⊥
 
--- what a command asks of a federation: the text of its sequential timestamp-ordered simulation, that of its needs, or the lines of that
--- simulation up to a time
+-- what a command asks of a federation: the text of its sequential timestamp-ordered simulation, that of its needs, the lines of that
+-- simulation up to a time, or the file of its cut then
 abbrev pub text_of : FederationCommand → Parts → List ℕ
 text_of Oracle p = simulation_text p
 text_of Check p = check_text p
 text_of (Replay schedule) p = simulation_text p
 text_of (Upto time) p = upto_text p time
+text_of (Save time) p = save_text p time
 
 -- the federate that takes number 16,385 in what a command simulates: the simulation, or the simulation up to a time
 abbrev pub spender_of : FederationCommand → Parts → Option ℕ
 spender_of (Upto time) p = spender_by p time
+spender_of (Save time) p = spender_by p time
 spender_of _ p = spender p
 
 -- what `regions` asks of the plan of a file, or of a file without one: a line for each update, or nothing
@@ -121,11 +133,26 @@ spent_text p i = federate_text (codes "SendsSpent") p i
 abbrev pub no_buffer_text : Parts → ℕ → ℕ → List ℕ
 no_buffer_text p i number = codes "fault NoBuffer " ++ (federate_at p i).name ++ codes " " ++ decimal number ++ codes "\n"
 
+-- what a simulation causes that has this text, or in which a federate takes number 16,385
+abbrev pub SpendingCauses : Parts → Option ℕ → List ℕ → Status → List ℕ → Type 0
+SpendingCauses p spends words Done text = (spends ≡ None) × (text ≡ words)
+SpendingCauses p spends words (SendsSpent i) text = (spends ≡ Some i) × (text ≡ spent_text p i)
+SpendingCauses p spends words _ text = ⊥
+
 -- what the simulation of a federation causes
 abbrev pub SimulationCauses : FederationCommand → Parts → Status → List ℕ → Type 0
-SimulationCauses command p Done text = (spender_of command p ≡ None) × (text ≡ text_of command p)
-SimulationCauses command p (SendsSpent i) text = (spender_of command p ≡ Some i) × (text ≡ spent_text p i)
-SimulationCauses command p _ text = ⊥
+SimulationCauses command p = SpendingCauses p (spender_of command p) (text_of command p)
+
+-- what the simulation causes that goes on from a cut
+abbrev pub ResumingCauses : Parts → Cut → Status → List ℕ → Type 0
+ResumingCauses p c = SpendingCauses p (resumed_spender p c) (resumed_text p c)
+
+-- what it causes that a simulation is saved at a time
+abbrev pub SavingCauses : ℕ → Parts → Status → List ℕ → Type 0
+SavingCauses time p Done text = IsSavable time p × (text ≡ save_text p time)
+SavingCauses time p CutTooLong text = (spender_by p time ≡ None) × (most_saved < length (save_text p time)) × (text ≡ too_long_text)
+SavingCauses time p (SendsSpent i) text = (spender_by p time ≡ Some i) × (text ≡ spent_text p i)
+SavingCauses time p _ text = ⊥
 
 -- what the end of a simulation without a text causes
 abbrev pub OracleEndCauses : Parts → OracleEnd → Status → List ℕ → Type 0
@@ -177,6 +204,7 @@ FederationCauses (Replay schedule) p run s text = ReplayCauses schedule p run s 
 FederationCauses Oracle p run s text = SimulationCauses Oracle p s text
 FederationCauses Check p run s text = SimulationCauses Check p s text
 FederationCauses (Upto time) p run s text = SimulationCauses (Upto time) p s text
+FederationCauses (Save time) p run s text = SavingCauses time p s text
 
 -- the line of a fault with its path
 abbrev pub path_text : List ℕ → List ℕ → List ℕ
@@ -194,17 +222,29 @@ bad_file_text (file.SendTooSoon path) = path_text (codes "SendTooSoon") path
 bad_file_text (file.NotRegulating path) = path_text (codes "NotRegulating") path
 bad_file_text file.NoMemory = []
 
--- the bytes are no JSON text, or this is the first fault of their walk
+-- the bytes are no JSON text, or this is the first fault of a walk
+abbrev pub IsBadBy : {A : Type 0} → (Data → Answer A) → List ℕ → FileFault → Type 0
+IsBadBy walk bytes file.NotJson = IsNoJson bytes
+IsBadBy walk bytes (file.Missing path) = IsFirstFaultOf walk bytes (file.Missing path)
+IsBadBy walk bytes (file.WrongKind path) = IsFirstFaultOf walk bytes (file.WrongKind path)
+IsBadBy walk bytes (file.OutOfRange path) = IsFirstFaultOf walk bytes (file.OutOfRange path)
+IsBadBy walk bytes (file.UnknownName path) = IsFirstFaultOf walk bytes (file.UnknownName path)
+IsBadBy walk bytes (file.Repeated path) = IsFirstFaultOf walk bytes (file.Repeated path)
+IsBadBy walk bytes (file.SendTooSoon path) = IsFirstFaultOf walk bytes (file.SendTooSoon path)
+IsBadBy walk bytes (file.NotRegulating path) = IsFirstFaultOf walk bytes (file.NotRegulating path)
+IsBadBy walk bytes file.NoMemory = ⊥
+
+-- of that of a federation file, of that of a saved file, and of that of the file which a command reads
 abbrev pub IsBadFile : List ℕ → FileFault → Type 0
-IsBadFile bytes file.NotJson = IsNoJson bytes
-IsBadFile bytes (file.Missing path) = IsFirstFault bytes (file.Missing path)
-IsBadFile bytes (file.WrongKind path) = IsFirstFault bytes (file.WrongKind path)
-IsBadFile bytes (file.OutOfRange path) = IsFirstFault bytes (file.OutOfRange path)
-IsBadFile bytes (file.UnknownName path) = IsFirstFault bytes (file.UnknownName path)
-IsBadFile bytes (file.Repeated path) = IsFirstFault bytes (file.Repeated path)
-IsBadFile bytes (file.SendTooSoon path) = IsFirstFault bytes (file.SendTooSoon path)
-IsBadFile bytes (file.NotRegulating path) = IsFirstFault bytes (file.NotRegulating path)
-IsBadFile bytes file.NoMemory = ⊥
+IsBadFile = IsBadBy walk
+
+abbrev pub IsBadSaved : List ℕ → FileFault → Type 0
+IsBadSaved = IsBadBy saved_walk
+
+abbrev pub IsBadFor : Command → List ℕ → FileFault → Type 0
+IsBadFor (OnFederation command) = IsBadFile
+IsBadFor Regions = IsBadFile
+IsBadFor Resume = IsBadSaved
 
 -- a fault that is to be told, with its line
 abbrev pub IsTheFault : FileFault → Status → List ℕ → Type 0
@@ -218,21 +258,30 @@ IsInput g old new p = (bytes : List ℕ) × IsWhole g old new bytes × IsAccepte
 abbrev pub IsPlanInput : {S : Type 0} → Ghosts S → S → S → Option Plan → Type 0
 IsPlanInput g old new plan = (bytes : List ℕ) × IsWhole g old new bytes × IsAcceptedPlan bytes plan
 
--- what an input causes that is none
+-- the input is a saved file of this federation and this cut
+abbrev pub IsSavedInput : {S : Type 0} → Ghosts S → S → S → Parts × Cut → Type 0
+IsSavedInput g old new saved = (bytes : List ℕ) × IsWhole g old new bytes × IsSaved bytes saved
+
+-- what an input causes that is none, where these are bad files
+abbrev pub InputCausesBy : {S : Type 0} → Ghosts S → (List ℕ → FileFault → Type 0) → S → S → Status → List ℕ → Type 0
+InputCausesBy g bad old new ReadFault text = Rose (g.faults old) (g.faults new) × TookAtMost (g.left old) (g.left new) most_bytes × (text ≡ codes "fault ReadFault\n")
+InputCausesBy g bad old new TooLong text = Took (g.left old) (g.left new) (most_bytes + 1) × (text ≡ codes "fault TooLong\n")
+InputCausesBy g bad old new (BadFile fault) text = (bytes : List ℕ) × IsWhole g old new bytes × bad bytes fault × (text ≡ bad_file_text fault)
+InputCausesBy g bad old new s text = ⊥
+
+-- where it is to be a federation file
 abbrev pub InputCauses : {S : Type 0} → Ghosts S → S → S → Status → List ℕ → Type 0
-InputCauses g old new ReadFault text = Rose (g.faults old) (g.faults new) × TookAtMost (g.left old) (g.left new) most_bytes × (text ≡ codes "fault ReadFault\n")
-InputCauses g old new TooLong text = Took (g.left old) (g.left new) (most_bytes + 1) × (text ≡ codes "fault TooLong\n")
-InputCauses g old new (BadFile fault) text = (bytes : List ℕ) × IsWhole g old new bytes × IsBadFile bytes fault × (text ≡ bad_file_text fault)
-InputCauses g old new s text = ⊥
+InputCauses g = InputCausesBy g IsBadFile
 
 -- what a command makes of the bytes of a file that is accepted
 abbrev pub AcceptedCauses : Command → List ℕ → Option Run → Status → List ℕ → Type 0
 AcceptedCauses (OnFederation command) bytes run s text = (p : Parts) × IsAccepted bytes p × FederationCauses command p run s text
 AcceptedCauses Regions bytes run s text = (plan : Option Plan) × IsAcceptedPlan bytes plan × IsThis Done (plan_text plan) s text
+AcceptedCauses Resume bytes run s text = (saved : Parts × Cut) × IsSaved bytes saved × ResumingCauses saved.0 saved.1 s text
 
 -- what a command makes of the bytes of a file
 abbrev pub FileCauses : Command → List ℕ → Option Run → Status → List ℕ → Type 0
-FileCauses command bytes run (BadFile fault) text = IsBadFile bytes fault × (text ≡ bad_file_text fault)
+FileCauses command bytes run (BadFile fault) text = IsBadFor command bytes fault × (text ≡ bad_file_text fault)
 FileCauses command bytes run s text = AcceptedCauses command bytes run s text
 
 -- the status that the words, the input and what was replayed cause, and its text; the source was the one and is the other
@@ -256,16 +305,18 @@ HasText WriteFault = ⊥
 HasText NoMemory = ⊥
 HasText s = Unit {0}
 
--- nobody takes number 16,385 in what `oracle`, `check` and `upto` simulate
+-- nobody takes number 16,385 in what `oracle`, `check` and `upto` simulate, and what is saved can be
 abbrev pub IsWithin : FederationCommand → Parts → Type 0
 IsWithin (Replay schedule) p = Unit {0}
+IsWithin (Save time) p = IsSavable time p
 IsWithin command p = spender_of command p ≡ None
 
--- what a command asks of the file with these bytes: the text of the simulation of its federation, its lines up to a time, the text of its
--- needs, or the lines of its regions
+-- what a command asks of the file with these bytes: the text of the simulation of its federation, its lines up to a time, the file of its cut,
+-- the text of its needs, the lines of its regions, or the text of the simulation that goes on from its cut
 abbrev pub IsAsked : Command → List ℕ → List ℕ → Type 0
 IsAsked (OnFederation command) bytes text = (p : Parts) × IsAccepted bytes p × IsWithin command p × (text ≡ text_of command p)
 IsAsked Regions bytes text = (plan : Option Plan) × IsAcceptedPlan bytes plan × (text ≡ plan_text plan)
+IsAsked Resume bytes text = (saved : Parts × Cut) × IsSaved bytes saved × (resumed_spender saved.0 saved.1 ≡ None) × (text ≡ resumed_text saved.0 saved.1)
 
 -- the promise of each command: the input is a federation file, and what was written is what the command asks of it
 pub record IsAnswered {S : Type 0} (g : Ghosts S) (words : List (List ℕ)) (from to : S) (old new : Option (List ℕ)) : Type 0 where
@@ -295,10 +346,12 @@ IsFederationRun (Replay schedule) p r = IsRunOf p schedule r
 IsFederationRun Oracle p r = ⊥
 IsFederationRun Check p r = ⊥
 IsFederationRun (Upto time) p r = ⊥
+IsFederationRun (Save time) p r = ⊥
 
 abbrev pub IsFileRun : Command → List ℕ → Run → Type 0
 IsFileRun (OnFederation command) bytes r = (p : Parts) × IsAccepted bytes p × IsFederationRun command p r
 IsFileRun Regions bytes r = ⊥
+IsFileRun Resume bytes r = ⊥
 
 abbrev pub IsRun : {S : Type 0} → Ghosts S → List (List ℕ) → S → S → Run → Type 0
 IsRun g words old new r = (command : Command) × IsCommand words command × (bytes : List ℕ) × IsWhole g old new bytes × IsFileRun command bytes r
@@ -312,22 +365,34 @@ abbrev pub HasBuffers : Command → Parts → Type 0
 HasBuffers (OnFederation (Replay schedule)) p = (i : ℕ) → i < length p.federates → need_of p i ≤ p.buffers
 HasBuffers _ p = Unit {0}
 
--- the words are those of the command, the source tells its bytes, they are not too many, they are the file of the
--- federation, nobody takes number 16,385 in its simulation, and there are enough buffers
+-- the bytes are the file that a command reads, of this federation, and nobody takes number 16,385 in its simulation, or in the one that goes on
+-- from its cut
+abbrev pub IsReady : Command → List ℕ → Parts → Type 0
+IsReady (OnFederation command) bytes p = IsAccepted bytes p × (spender p ≡ None)
+IsReady Regions bytes p = IsAccepted bytes p × (spender p ≡ None)
+IsReady Resume bytes p = (c : Cut) × IsSaved bytes (p, c) × (resumed_spender p c ≡ None)
+
+-- the words are those of the command, the source tells its bytes, they are not too many, they are the command's file of the
+-- federation, and there are enough buffers
 pub record CanAnswer {S : Type 0} (g : Ghosts S) (words : List (List ℕ)) (old : S) (command : Command) (federation : Parts) : Type 0 where
   pub word : IsCommand words command
   pub input : List ℕ
   pub told : g.left old ≡ Some input
   pub short : length input ≤ most_bytes
-  pub accepted : IsAccepted input federation
-  pub within : spender federation ≡ None
+  pub ready : IsReady command input federation
   pub buffers : HasBuffers command federation
+
+-- what `save` causes where nobody takes number 16,385: the saved file, or, where that has too many bytes, that it is too long
+abbrev pub SaveAnswers : ℕ → Parts → Status → List ℕ → Type 0
+SaveAnswers time p s text = (length (save_text p time) ≤ most_saved) × IsThis Done (save_text p time) s text ⊎ (most_saved < length (save_text p time)) × IsThis CutTooLong too_long_text s text
 
 -- what a command that can be answered causes
 abbrev pub Answers : Command → Parts → Status → List ℕ → Type 0
 Answers (OnFederation (Replay schedule)) p s text = IsThis Done (simulation_text p) s text ⊎ (i : ℕ) × IsThis (Unfinished i) (federate_text (codes "Unfinished") p i) s text
+Answers (OnFederation (Save time)) p s text = SaveAnswers time p s text
 Answers (OnFederation command) p s text = IsThis Done (text_of command p) s text
 Answers Regions p s text = s ≡ Done
+Answers Resume p s text = s ≡ Done
 
 module _ {S : Type 0} (g : Ghosts S) where
   -- where the source tells its bytes, and no read failed, the words and the input, and for `replay` how the run ended,
@@ -337,7 +402,7 @@ module _ {S : Type 0} (g : Ghosts S) where
       → (IsReplayCommand words → end_of q ≡ end_of r) → Causes g words old new q s a → Causes g words old new r t b → (s ≡ t) × (a ≡ b)
 
   -- where a command can answer, what is caused is Done, with the text that the command asks for, or that a read failed;
-  -- for `replay` it may also be that the run did not finish
+  -- for `replay` it may also be that the run did not finish, and for `save` that the file would be too long
   abbrev pub Completes : Type 0
   Completes = (words : List (List ℕ)) (old new : S) (command : Command) (federation : Parts) (run : Option Run) (s : Status) (text : List ℕ)
       → CanAnswer g words old command federation → Causes g words old new run s text → Answers command federation s text ⊎ (s ≡ ReadFault)

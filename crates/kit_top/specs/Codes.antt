@@ -1,7 +1,7 @@
 -- The exit status of each end.
 use Rattle.std.specs.Prelude.{ℕ}
 use Rattle.kit_top.specs.declared.status.Status.{Status}
-use Rattle.kit_top.specs.declared.status.Status.TheVariants.{Done, Usage, ReadFault, TooLong, BadFile, Unfinished, NoBuffer, SendsSpent, RoundsSpent, WriteFault, NoMemory}
+use Rattle.kit_top.specs.declared.status.Status.TheVariants.{Done, Usage, ReadFault, TooLong, BadFile, Unfinished, NoBuffer, SendsSpent, RoundsSpent, WriteFault, NoMemory, CutTooLong}
 
 abbrev pub code_of : Status → ℕ
 code_of Done = 0
@@ -15,3 +15,4 @@ code_of (SendsSpent federate) = 8
 code_of (RoundsSpent federate) = 9
 code_of WriteFault = 10
 code_of NoMemory = 11
+code_of CutTooLong = 12

@@ -5,3 +5,5 @@ pub mod WorkerCommands
 pub mod WorkerRuns
 pub mod Headline
 pub mod WorkerLaws
+pub mod Saving
+pub mod SavingLaws

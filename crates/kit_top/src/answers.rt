@@ -10,6 +10,7 @@ ghost use Rattle.kit_top.specs.Causes.{OracleEndCauses, SimulationCauses, Told, 
 
 use crate::federates::tell_federate;
 use crate::replays::tell_replay;
+use crate::saving::tell_save;
 use crate::writing::tell;
 use crate::{Ended, FederationCommand, Status};
 use kit_cut::{cut_at, simulation_is_cut_in_two};
@@ -58,7 +59,7 @@ fn upto_text(alloc: Global, federation: &Federation, time: u64) -> Result<Vec<u8
 }
 
 /// Tells how a simulation ended without a text.
-fn tell_oracle_end<K: Sink>(
+pub(crate) fn tell_oracle_end<K: Sink>(
     alloc: Global,
     federation: &Federation,
     end: OracleEnd,
@@ -129,6 +130,9 @@ pub(crate) fn tell_federation<K: Sink>(
         FederationCommand::Replay(schedule) => tell_replay(alloc, federation, schedule, sink),
         FederationCommand::Upto(time) => {
             Ended::empty(alloc, tell_upto(alloc, federation, *time, sink))
+        }
+        FederationCommand::Save(time) => {
+            Ended::empty(alloc, tell_save(alloc, federation, *time, sink))
         }
     }
 }

@@ -17,6 +17,8 @@ pub enum Command {
     /// `regions`: a line for each region to which the federates of a file send, with the federates
     /// that it reaches.
     Regions,
+    /// `resume`: the text of the simulation that goes on from the cut of a saved file.
+    Resume,
 }
 
 /// What is asked of a federation.
@@ -30,6 +32,8 @@ pub enum FederationCommand {
     Replay(Schedule),
     /// `upto` and a time: the lines of the sequential simulation up to that time.
     Upto(u64),
+    /// `save` and a time: the saved file of the federation, with the cut of its simulation then.
+    Save(u64),
 }
 
 /// The time that these words are, where they are one: from 0 to the greatest end time, in decimal
@@ -73,6 +77,12 @@ impl FederationCommand {
                 None => Ok(None),
             };
         }
+        if first.is("save") {
+            return match time_in(rest) {
+                Some(time) => Ok(Some(FederationCommand::Save(time))),
+                None => Ok(None),
+            };
+        }
         if !rest.is_empty() {
             return Ok(None);
         }
@@ -96,6 +106,16 @@ fn is_regions(words: &[Word]) -> bool
     }
 }
 
+/// Whether the words are those of `resume`.
+fn is_resume(words: &[Word]) -> bool
+    ensures { IsTrue result ↔ IsCommand words.now Command.Resume }
+{
+    match words {
+        [word] => word.is("resume"),
+        _ => false,
+    }
+}
+
 impl Command {
     /// The command of these words, where they are one. It fails only for want of memory.
     pub(crate) fn of(alloc: Global, words: &[Word]) -> Result<Option<Command>, AllocError>
@@ -106,6 +126,9 @@ impl Command {
     {
         if is_regions(words) {
             return Ok(Some(Command::Regions));
+        }
+        if is_resume(words) {
+            return Ok(Some(Command::Resume));
         }
         match FederationCommand::of(alloc, words)? {
             Some(command) => Ok(Some(Command::OnFederation(command))),

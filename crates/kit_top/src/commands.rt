@@ -6,8 +6,9 @@ ghost use Rattle.kit_top.specs.Causes.{Causes, IsAnswered, IsCommand, IsEnded, I
 ghost use Rattle.kit_top.specs.Causes.{IsNoCommand, Told, Completes, OneCause};
 
 use crate::answers::tell_federation;
-use crate::input::{read_input, read_plan_input};
+use crate::input::{read_input, read_plan_input, read_saved_input};
 use crate::regions::tell_regions;
+use crate::saving::tell_resume;
 use crate::writing::tell;
 use crate::{Command, Ended, FederationCommand, Status, Word};
 use kit_io::{Sink, Source};
@@ -45,6 +46,19 @@ fn answer_regions<S: Source, K: Sink>(alloc: Global, source: &mut S, sink: &mut 
     }
 }
 
+/// Answers `resume` by the source's saved file.
+fn answer_resume<S: Source, K: Sink>(alloc: Global, source: &mut S, sink: &mut K) -> Status
+    ensures told { (words : List (List ℕ)) → IsCommand words Command.Resume
+        → Told (Causes S.Source words source.old source.new None)
+        (K.holds sink.old) (K.holds sink.new) result }
+    ensures fault { result ≡ Status.WriteFault → Rose (K.faults sink.old) (K.faults sink.new) }
+{
+    match read_saved_input(alloc, source, sink) {
+        Ok((federation, cut)) => tell_resume(alloc, &federation, &cut, sink),
+        Err(status) => status,
+    }
+}
+
 /// Answers a command by the source's bytes.
 fn answer_command<S: Source, K: Sink>(
     alloc: Global,
@@ -61,6 +75,7 @@ fn answer_command<S: Source, K: Sink>(
     match command {
         Command::OnFederation(command) => answer_on_federation(alloc, command, source, sink),
         Command::Regions => Ended::empty(alloc, answer_regions(alloc, source, sink)),
+        Command::Resume => Ended::empty(alloc, answer_resume(alloc, source, sink)),
     }
 }
 
@@ -84,7 +99,9 @@ fn answer<S: Source, K: Sink>(alloc: Global, words: &[Word], source: &mut S, sin
 ///
 /// `oracle`, alone, writes the text of the file's sequential timestamp-ordered simulation, and
 /// `check` how many buffers each of its federates needs and whether there are enough. `upto` and a
-/// time write the lines of that simulation's grants of this time or earlier. `replay` and
+/// time write the lines of that simulation's grants of this time or earlier, `save` and a time the
+/// file of the federation with the cut of that simulation then, and `resume`, alone, reads such a
+/// file and writes the text of the simulation that goes on from its cut. `replay` and
 /// the words of a schedule ([`schedule_of`](kit_schedule::schedule_of)) run the federates as nodes
 /// over one floor, with these turns, and write the text of the histories that the nodes report.
 /// `regions`, alone, writes a line for each region of a file that has such, with the federates that
@@ -99,8 +116,10 @@ pub fn plain<S: Source, K: Sink>(
 ) -> Ended
     // Done: what was written is what the command asks of the file: for `oracle` and `replay` the
     // text of its sequential timestamp-ordered simulation, for `upto` its lines up to a time, for
-    // `check` the text of its needs, for `regions` the lines of its plan's regions, or nothing
-    // where it has no plan.
+    // `save` the saved file with its cut then, which is read again as the federation and that cut,
+    // for `resume` the text of the simulation that goes on from the file's cut, for `check` the
+    // text of its needs, for `regions` the lines of its plan's regions, or nothing where it has no
+    // plan.
     ensures done { result.status ≡ Status.Done →
         IsAnswered S.Source words.now source.old source.new (K.holds sink.old) (K.holds sink.new) }
 

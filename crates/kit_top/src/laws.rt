@@ -2,8 +2,10 @@
 //! a function that does nothing.
 
 ghost use Rattle.kit_top.specs.Regions.{PlansAreSimulated};
+ghost use Rattle.kit_top.specs.SavingLaws.{RestIsResumed, TextIsCutInTwo};
 ghost use Rattle.kit_top.specs.WorkerLaws.{CompletesByWorkers, OneCauseByWorkers};
 
+use kit_cut::simulation_is_cut_in_two;
 use kit_io::Source;
 
 /// Where the source tells its bytes and no read failed, a command with workers, the input and how
@@ -28,3 +30,14 @@ pub fn completeness_by_workers<S: Source>()
 pub fn plans_are_simulated()
     ensures { PlansAreSimulated }
 {}
+
+/// What is saved and resumed loses nothing. The text of a simulation is that of its lines up to a
+/// time, which `upto` writes, followed by the text that is resumed from its cut then. And where
+/// nobody takes number 16,385 in the simulation, `resume` on the bytes that `save` writes has no
+/// cause for another status than Done, and for no other text than the rest of that of `oracle`.
+pub fn nothing_is_lost()
+    ensures text { TextIsCutInTwo }
+    ensures rest { RestIsResumed }
+{
+    simulation_is_cut_in_two();
+}

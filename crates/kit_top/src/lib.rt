@@ -13,6 +13,7 @@ mod input;
 mod laws;
 mod regions;
 mod replays;
+mod saving;
 mod status;
 mod top;
 mod worker_command;
@@ -24,7 +25,9 @@ pub use commands::{completeness, one_cause, plain};
 pub use ended::Ended;
 pub use kit_runner::{Gate, Through};
 pub use kit_schedule::Word;
-pub use laws::{completeness_by_workers, one_cause_by_workers, plans_are_simulated};
+pub use laws::{
+    completeness_by_workers, nothing_is_lost, one_cause_by_workers, plans_are_simulated,
+};
 pub use status::Status;
 pub use top::{rtik, rules_keep_it};
 pub use worker_command::WorkerCommand;

@@ -40,6 +40,9 @@ pub enum Status {
     /// There was no memory.
     #[error("memory ran out")]
     NoMemory,
+    /// The saved file would have more than 1,048,576 bytes.
+    #[error("the saved file would have more than 1,048,576 bytes")]
+    CutTooLong,
 }
 
 impl Status {
@@ -61,6 +64,7 @@ impl Status {
             Status::RoundsSpent { .. } => 9,
             Status::WriteFault => 10,
             Status::NoMemory => 11,
+            Status::CutTooLong => 12,
         }
     }
 }

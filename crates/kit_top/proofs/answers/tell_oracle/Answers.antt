@@ -1,7 +1,7 @@
 use Rattle.std.proofs.Common.{◌∙◌}
 use Rattle.kit_top.specs.declared.command.FederationCommand.TheVariants.{Oracle}
 use Rattle.kit_top.specs.declared.status.Status.TheVariants.{Done}
-use Rattle.kit_top.specs.Causes.{OracleEndCauses, SimulationCauses}
+use Rattle.kit_top.specs.Causes.{OracleEndCauses, SimulationCauses, spender_of, text_of}
 use Rattle.kit_top.proofs.Telling.{oracle_causes, told_by, told_weaker}
 use Rattle.kit_top.proofs.answers.tell_oracle.Goals as goal
 
@@ -12,4 +12,4 @@ returns-in-Ok-clause-told g c =
 pub returns-in-Err-clause-told : goal.returns-in-Err-clause-told
 returns-in-Err-clause-told g c =
     let p = c.args.federation.now in
-    told_weaker (OracleEndCauses p c.in-Err.end) (SimulationCauses Oracle p) _ _ c.tell_oracle_end.result (oracle_causes Oracle p c.in-Err.end c.in-Err.ensures.spent) c.tell_oracle_end.ensures.told
+    told_weaker (OracleEndCauses p c.in-Err.end) (SimulationCauses Oracle p) _ _ c.tell_oracle_end.result (oracle_causes p (spender_of Oracle p) (text_of Oracle p) c.in-Err.end c.in-Err.ensures.spent) c.tell_oracle_end.ensures.told

@@ -1,5 +1,6 @@
 use Rattle.std.proofs.Common.{List, ℕ, Option, Err, ap, sym, subst}
 use Rattle.kit_top.specs.Causes.{InputCauses, IsTheFault, IsWhole, Told}
+use Rattle.kit_file.specs.Walk.{walk}
 use Rattle.kit_top.proofs.Telling.{bad_file_causes, told_weaker}
 use Rattle.kit_top.proofs.input.read_input.Goals as goal
 
@@ -13,4 +14,4 @@ returns-clause-told g c =
     let P : Option (List ℕ) → Type 0 = λ held. Told (InputCauses g.S.Source old new) held (g.K.Sink.holds c.tell_bad_file.new.sink) c.tell_bad_file.result in
     subst P (ap g.K.Sink.holds c.in_ok-bytes.ensures.untouched)
     (told_weaker (IsTheFault fault) (InputCauses g.S.Source old new) _ _ c.tell_bad_file.result
-    (bad_file_causes g.S.Source old new c.deref.result.now fault whole c.in-Err.ensures.fault (λ x. c.in-Err.ensures.not_json (ap Err x))) c.tell_bad_file.ensures.told)
+    (bad_file_causes g.S.Source walk old new c.deref.result.now fault whole c.in-Err.ensures.fault (λ x. c.in-Err.ensures.not_json (ap Err x))) c.tell_bad_file.ensures.told)
