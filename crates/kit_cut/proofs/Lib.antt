@@ -20,3 +20,4 @@ mod FitSince
 mod Onward
 mod Posting
 pub mod Spending
+mod BelowNext

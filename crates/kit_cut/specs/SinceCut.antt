@@ -1,5 +1,5 @@
 -- The desks of a simulation that goes on from a cut.
-use Rattle.std.specs.Prelude.{ℕ, ◌+◌, ◌==◌, ◌&&◌, Bool, if◌then◌else◌, List, [], ◌∷◌, length, drop, slice_set, unwrap_or}
+use Rattle.std.specs.Prelude.{ℕ, ◌+◌, ◌<◌, ◌==◌, All, slice_index, ◌&&◌, Bool, if◌then◌else◌, List, [], ◌∷◌, length, drop, slice_set, unwrap_or}
 use Rattle.kit_base.specs.declared.message.Message.{Message}
 use Rattle.kit_rules.specs.declared.table.Request.TheVariants as request
 use Rattle.kit_rules.specs.Parts.{Parts}
@@ -32,6 +32,10 @@ desks_since p c sent i (s ∷ ss) = desk_of_seat p (since_cut c i sent) i s ∷ 
 -- the desks of a world since a cut
 abbrev pub desks_of_world_since : Parts → Cut → World → List Desk
 desks_of_world_since p c w = desks_since p c w.messages 0 w.seats
+
+-- what is pending at a cut has numbers below its senders' next
+abbrev pub AreBelowNext : Cut → Type 0
+AreBelowNext c = (j : ℕ) → All (λ (m : Message). m.number < slice_index c.next m.sender) (standing_at c j).pending
 
 -- whether a Retraction names a message, whatever its time
 abbrev pub is_named : Message → Message → Bool

@@ -115,6 +115,8 @@ fn cut_of_desks(
 ///
 /// It ends with `SendsSpent` where a federate takes number 16,385 up to that time, and names the
 /// first to do so.
+// Compiled alone, as `resume_from`.
+#[inline(never)]
 pub fn cut_at(
     alloc: Global,
     federation: &Federation,

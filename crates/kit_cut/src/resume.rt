@@ -10,7 +10,8 @@ ghost use Rattle.kit_oracle.specs.Ends.{IfSpent};
 ghost use Rattle.kit_oracle.specs.Pending.{front_until};
 ghost use Rattle.kit_cut.specs.ValidCuts.{IsValidCut};
 ghost use Rattle.kit_cut.specs.Resuming.{world_restored, resumed, resumed_spender};
-ghost use Rattle.kit_cut.specs.SinceCut.{desks_of_world_since, desks_after_grant_since};
+ghost use Rattle.kit_cut.specs.SinceCut.{AreBelowNext, desks_of_world_since};
+ghost use Rattle.kit_cut.specs.SinceCut.{desks_after_grant_since};
 
 use crate::Cut;
 use crate::postings::post_all;
@@ -35,6 +36,7 @@ fn grant_since(
     requires each { length cut.now.federates ≡ length desks.old.items }
     requires time { pair.0 ≤ federation.now.end }
     requires made { made.old.items ≡ [] }
+    requires below { AreBelowNext cut.now }
     ensures desks { OnOk result (desks.new.items ≡
         desks_after_grant_since federation.now cut.now pair desks.old.items) }
     ensures made { OnOk result (made.new.items ≡ []) }
@@ -102,6 +104,8 @@ fn run_on(
 /// is all that may still reach a federate of what was sent before; a Retraction takes out what its
 /// sender and number name of it, whatever the time. It ends with `SendsSpent` where a federate
 /// takes number 16,385, and names the first to do so since the cut.
+// Compiled alone, the loop is as fast whatever else its caller does.
+#[inline(never)]
 pub fn resume_from(alloc: Global, federation: &Federation, cut: &Cut) -> Result<History, OracleEnd>
     requires { IsValidCut federation.now cut.now }
     ensures lines { IfOk result (λ h.

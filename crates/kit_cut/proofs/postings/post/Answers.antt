@@ -20,6 +20,6 @@ loop-j-preserved c =
     ap (λ (ss : List Standing). get_or ss j c.index-standings-j.result) c.as_slice-standings.ensures ∙ get_or_default cut.federates j _ nobody_stands (omega (arith, lt, inv.same, c.requires.each)) in
     let queue : List Message → List Message = λ pending. queue_after_since c.args.mask j pending c.args.message.now x.queue in
     record {
-      rest = post_step_since cut c.args.mask c.args.message.now j ds x c.post_at.new.queue lt c.index_mut.ensures.value (c.in_ok-post_at.ensures ∙ ap queue c.as_slice-pending.ensures ∙ ap (λ (s : Standing). queue s.pending) is) ∙ inv.rest;
+      rest = post_step_since cut c.args.mask c.args.message.now j ds x c.post_at.new.queue lt c.index_mut.ensures.value (c.in_ok-post_at.ensures ∙ ap (λ (s : Standing). queue s.pending) (c.index-standings-j.is ∙ is)) ∙ inv.rest;
       same = length-set ds j (with_queue x c.post_at.new.queue) ∙ inv.same;
     }

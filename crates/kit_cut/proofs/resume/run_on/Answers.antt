@@ -15,6 +15,7 @@ use Rattle.kit_oracle.specs.Desks.{desk_at, desk_after_turn_at, waiting_at}
 use Rattle.kit_oracle.proofs.Progress.{turn_within, spent_of}
 use Rattle.kit_cut.specs.Resuming.{next_since, resumed, resumed_spender, world_restored}
 use Rattle.kit_cut.specs.SinceCut.{desks_of_world_since}
+use Rattle.kit_cut.proofs.BelowNext.{valid_below}
 use Rattle.kit_cut.proofs.Onward.{world_later, ShowsSince, shows_restored, few_since, next_found_since, next_fits_since, over_since, lines_fit_since, lines_next_since, granted_shows_since, spent_here_since}
 use Rattle.kit_cut.proofs.resume.run_on.Goals.{In-Some, In-None}
 use Rattle.kit_cut.proofs.resume.run_on.Goals as goal
@@ -148,3 +149,6 @@ pub returns-clause-each : goal.returns-clause-each
 returns-clause-each c =
     let i = c.loop-turn.invariant in
     few_since c.args.federation.now c.args.cut.now c.loop-turn._turn c.loop-turn.desks.items (record { desks = i.desks; none = i.none; since = i.since; fit = i.fit })
+
+pub grant_since-requires-clause-below : goal.grant_since-requires-clause-below
+grant_since-requires-clause-below c = valid_below c.args.federation.now c.args.cut.now c.requires.valid
